@@ -1,4 +1,5 @@
 #!/usr/bin/env python3
+# SPDX-License-Identifier: Apache-2.0 OR MIT
 """What pages, bids and assignments cost in a large conference, beside the same in a small one.
 
     python3 bench/assignment_cost.py [PROGRAM] [PAGES]

@@ -1,4 +1,5 @@
 #!/usr/bin/env python3
+# SPDX-License-Identifier: Apache-2.0 OR MIT
 """What contents cost: uploads and downloads of 4 MiB over a socket, and memory with 400 of them.
 
     python3 bench/content_cost.py [PROGRAM] [FOLDER]

@@ -1,4 +1,5 @@
 #!/usr/bin/env python3
+# SPDX-License-Identifier: Apache-2.0 OR MIT
 """What a drill costs: 100,000 made-up commands, judged, kept and applied, and the views of eight users.
 
     python3 bench/drill_cost.py [PROGRAM]

@@ -1,4 +1,5 @@
 #!/usr/bin/env python3
+# SPDX-License-Identifier: Apache-2.0 OR MIT
 """Measures what the gate costs: runs a command such as `rt ci` and adds up the processor time of all that it starts,
 crate by crate, in five parts: the crates' own proofs, their tests, the edits that have to be refused, what makes the
 programs (Rattle's back end, clang and Rattle's own compiler, linking), and running them and the tests. Prints a table

@@ -1,4 +1,5 @@
 #!/usr/bin/env python3
+# SPDX-License-Identifier: Apache-2.0 OR MIT
 """What a command, a row of a store and a record in memory cost as a conference fills.
 
     python3 bench/growth_cost.py [PROGRAM] [--before OTHER] [--parts commands,stores,memory] [--tenth] [--runs N]

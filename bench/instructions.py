@@ -1,4 +1,5 @@
 #!/usr/bin/env python3
+# SPDX-License-Identifier: Apache-2.0 OR MIT
 """Counts the processor instructions that requests take, by valgrind's callgrind: the same of the same program and input
 whatever else the machine is doing, so that two builds can be compared while provers run.
 

@@ -1,4 +1,5 @@
 #!/usr/bin/env python3
+# SPDX-License-Identifier: Apache-2.0 OR MIT
 """What a journal costs beside a database: commits a second, and opening a large store.
 
     python3 bench/journal_cost.py [--rows N] [--commits N] [--turns N] [PROGRAM] [FOLDER]

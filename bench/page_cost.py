@@ -1,4 +1,5 @@
 #!/usr/bin/env python3
+# SPDX-License-Identifier: Apache-2.0 OR MIT
 """What a page with a long abstract costs, and what the program keeps of many.
 
     python3 bench/page_cost.py [PROGRAM] [PAGES]

@@ -1,4 +1,5 @@
 #!/usr/bin/env python3
+# SPDX-License-Identifier: Apache-2.0 OR MIT
 """What a plan costs, which is solved while the lock is held, beside scipy on the same problem.
 
     /usr/bin/python3 bench/plan_cost.py [PROGRAM]      crates/confd/out/confd where none is named

@@ -1,4 +1,5 @@
 #!/usr/bin/env python3
+# SPDX-License-Identifier: Apache-2.0 OR MIT
 """What a bulk assignment and each report cost in a large conference.
 
     python3 bench/report_cost.py [PROGRAM]

@@ -1,4 +1,5 @@
 #!/usr/bin/env python3
+# SPDX-License-Identifier: Apache-2.0 OR MIT
 """What the number of a command costs: its look-up, and the digest of its request.
 
     python3 bench/retries_cost.py [PROGRAM] [--before OTHER] [--tenth] [--runs N]

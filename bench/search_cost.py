@@ -1,4 +1,5 @@
 #!/usr/bin/env python3
+# SPDX-License-Identifier: Apache-2.0 OR MIT
 """What searches cost over 9,999 papers, and what bad ones do.
 
     python3 bench/search_cost.py [PROGRAM]

@@ -1,4 +1,5 @@
 #!/usr/bin/env python3
+# SPDX-License-Identifier: Apache-2.0 OR MIT
 """How fast `confd serve` answers, beside others in the same run.
 
     python3 bench/serve_speed.py [--turns N] [--seconds S] [--connections C,..] [--requests R]

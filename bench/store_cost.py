@@ -1,4 +1,5 @@
 #!/usr/bin/env python3
+# SPDX-License-Identifier: Apache-2.0 OR MIT
 """What a store costs: opening a million rows, and commits a second.
 
     python3 bench/store_cost.py [PROGRAM] [FOLDER]

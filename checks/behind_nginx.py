@@ -1,4 +1,5 @@
 #!/usr/bin/env python3
+# SPDX-License-Identifier: Apache-2.0 OR MIT
 """Tries `confd serve` behind nginx, with the configuration of deploy/nginx.conf.
 
     python3 checks/behind_nginx.py [CHECK..] [PROGRAM]

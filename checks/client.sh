@@ -1,4 +1,5 @@
 #!/bin/sh
+# SPDX-License-Identifier: Apache-2.0 OR MIT
 # Tries the client (client/): its style by flake8, its types by mypy, and its tests by pytest, against `confd serve`.
 #
 #     checks/client.sh [PROGRAM]

@@ -1,4 +1,5 @@
 #!/usr/bin/env python3
+# SPDX-License-Identifier: Apache-2.0 OR MIT
 """Tries `confd serve` with the clients that people use: curl, requests, ab and wrk.
 
     python3 checks/clients.py [PROGRAM]

@@ -1,4 +1,5 @@
 #!/usr/bin/env python3
+# SPDX-License-Identifier: Apache-2.0 OR MIT
 """Tries `confd serve` where more clients come than it has workers: whoever asks nothing gives way, and nobody else.
 
     python3 checks/crowds.py [CHECK..] [PROGRAM]

@@ -1,4 +1,5 @@
 #!/usr/bin/env python3
+# SPDX-License-Identifier: Apache-2.0 OR MIT
 """Drills, against a small model of the server.
 
     checks/drills.py [PROGRAM]        crates/confd/out/confd where none is named

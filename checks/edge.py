@@ -1,4 +1,5 @@
 #!/usr/bin/env python3
+# SPDX-License-Identifier: Apache-2.0 OR MIT
 """Tries what no proof says of sockets, clocks, threads and sizes: time-outs, an hour's connection, the time of day,
 growth, addresses.
 

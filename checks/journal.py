@@ -1,4 +1,5 @@
 #!/usr/bin/env python3
+# SPDX-License-Identifier: Apache-2.0 OR MIT
 """Tries confd on journals, files whose names end in `.cj`: what was answered is there, whatever happens,
 in each copy too.
 

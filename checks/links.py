@@ -1,4 +1,5 @@
 #!/usr/bin/env python3
+# SPDX-License-Identifier: Apache-2.0 OR MIT
 """Tries the pages: README.md and docs/*.md cite nothing that isn't there.
 
     python3 checks/links.py

@@ -1,4 +1,5 @@
 #!/usr/bin/env python3
+# SPDX-License-Identifier: Apache-2.0 OR MIT
 """Refuses memory to `confd`, one allocation after another: what goes out is whole answers, and then nothing or the 507.
 
     python3 checks/memory.py [--all] [CHECK..] [PROGRAM]

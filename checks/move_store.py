@@ -1,4 +1,5 @@
 #!/usr/bin/env python3
+# SPDX-License-Identifier: Apache-2.0 OR MIT
 """Tries deploy/move_store.py, which makes a journal of a database and a database of a journal.
 
     python3 checks/move_store.py [CHECK..] [PROGRAM]

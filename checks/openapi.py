@@ -1,4 +1,5 @@
 #!/usr/bin/env python3
+# SPDX-License-Identifier: Apache-2.0 OR MIT
 """Compares docs/openapi.json with what the cases of crates/conformance/data send, and with what is due there.
 
     python3 checks/openapi.py [WORD..]   the document in itself, and case files with a WORD in their name; none: all

@@ -1,4 +1,5 @@
 #!/bin/sh
+# SPDX-License-Identifier: Apache-2.0 OR MIT
 # Installs the Debian packages that the checks need beside the toolchain, Python and git: as root, from Debian alone.
 #
 #     checks/packages.sh [--missing] [GROUP..]      the packages of these groups, of all where none is named

@@ -1,4 +1,5 @@
 #!/usr/bin/env python3
+# SPDX-License-Identifier: Apache-2.0 OR MIT
 """Plans of assignments, against a brute force over all plans that there are, and large ones against scipy.
 
     python3 checks/plans.py [PLANS [PROGRAM]]     10,000 small plans of crates/confd/out/confd where none are named

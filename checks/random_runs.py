@@ -1,4 +1,5 @@
 #!/usr/bin/env python3
+# SPDX-License-Identifier: Apache-2.0 OR MIT
 """Random conferences, against a small model of the server.
 
     checks/random_runs.py [RUNS] [SEED]        20 runs from seed 1 where none are given

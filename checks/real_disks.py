@@ -1,4 +1,5 @@
 #!/usr/bin/env python3
+# SPDX-License-Identifier: Apache-2.0 OR MIT
 """Runs confd on real file systems over a disk that refuses a write, starts it again, goes on, and cuts the power.
 
     /usr/bin/python3 checks/real_disks.py [FILE SYSTEM..] [PROGRAM]

@@ -1,4 +1,5 @@
 #!/usr/bin/env python3
+# SPDX-License-Identifier: Apache-2.0 OR MIT
 """Asks the small model of `model.py` what the cases of crates/conformance/data send, and compares its answers with
 those that are due there: what a case expects is said a second time, by what no program answered.
 

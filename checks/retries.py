@@ -1,4 +1,5 @@
 #!/usr/bin/env python3
+# SPDX-License-Identifier: Apache-2.0 OR MIT
 """Sends ten thousand commands of `confd serve`, each by its number until it is answered, while connections are cut and
 the server is killed.
 

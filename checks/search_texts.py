@@ -1,4 +1,5 @@
 #!/usr/bin/env python3
+# SPDX-License-Identifier: Apache-2.0 OR MIT
 """All short searches, against a brute force over their grammar.
 
     checks/search_texts.py [TOKENS] [PROGRAM]

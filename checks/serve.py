@@ -1,4 +1,5 @@
 #!/usr/bin/env python3
+# SPDX-License-Identifier: Apache-2.0 OR MIT
 """Tries `confd serve` with real clients over sockets, many at once, and kills it.
 
     python3 checks/serve.py [--kills N] [--seconds S] [--timeouts] [PROGRAM]

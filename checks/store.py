@@ -1,4 +1,5 @@
 #!/usr/bin/env python3
+# SPDX-License-Identifier: Apache-2.0 OR MIT
 """Tries `confd pipe --store FILE` on real files: what was answered is there, whatever happens.
 
     python3 checks/store.py [CHECK..] [PROGRAM]

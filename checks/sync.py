@@ -1,4 +1,5 @@
 #!/usr/bin/env python3
+# SPDX-License-Identifier: Apache-2.0 OR MIT
 """Lets each sync, write and read of `confd pipe` fail in turn, and looks at what went out and what the file has.
 
     python3 checks/sync.py [CHECK..] [PROGRAM]

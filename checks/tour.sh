@@ -1,4 +1,5 @@
 #!/bin/bash
+# SPDX-License-Identifier: Apache-2.0 OR MIT
 # A conference from the call for papers to its end, asked with curl over a socket; docs/TOUR.md tells it.
 #
 #     checks/tour.sh [PROGRAM]

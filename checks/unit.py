@@ -1,4 +1,5 @@
 #!/usr/bin/env python3
+# SPDX-License-Identifier: Apache-2.0 OR MIT
 """Tries deploy/confd@.service: how much it shuts off, and that confd does its work within it.
 
     python3 checks/unit.py [PROGRAM]

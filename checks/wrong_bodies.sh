@@ -1,4 +1,5 @@
 #!/bin/sh
+# SPDX-License-Identifier: Apache-2.0 OR MIT
 # Wrong bodies that the gate leaves out, to stay short: each has to be refused by the proofs.
 #
 #     checks/wrong_bodies.sh [CRATE..]        all crates that have some in checks/wrong_bodies where none is told

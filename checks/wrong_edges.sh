@@ -1,4 +1,5 @@
 #!/bin/sh
+# SPDX-License-Identifier: Apache-2.0 OR MIT
 # Wrong bodies of the edge, where no clause says what the system does: the check that each names has to refuse it.
 #
 #     checks/wrong_edges.sh [NAME..]        all of checks/wrong_edges where none is told

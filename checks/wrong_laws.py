@@ -1,4 +1,5 @@
 #!/usr/bin/env python3
+# SPDX-License-Identifier: Apache-2.0 OR MIT
 """Plants wrong rules, the rows in checks/planted/laws, into definition and code alike,
 and looks which laws are false of each.
 

@@ -1,4 +1,5 @@
 #!/usr/bin/env python3
+# SPDX-License-Identifier: Apache-2.0 OR MIT
 """Plants wrong rules in copies of the repository and runs the cases of conformance on each, unproved.
 
 A rule of a command stands on both sides of the law that views suffice, so a wrong one that code and

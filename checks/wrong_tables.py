@@ -1,4 +1,5 @@
 #!/usr/bin/env python3
+# SPDX-License-Identifier: Apache-2.0 OR MIT
 """Plants wrong trigger tables, the rows in checks/planted/tables, and looks which clauses of the laws refuse each.
 
     checks/wrong_tables.py [WORD..]          computes, with no prover, the clauses that each row names:

@@ -1,4 +1,5 @@
 #!/usr/bin/env python3
+# SPDX-License-Identifier: Apache-2.0 OR MIT
 """Makes a journal of a database, or a database of a journal: the same history, in the other of confd's two formats.
 
     deploy/move_store.py [--confd PROGRAM] FROM TO

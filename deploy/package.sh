@@ -1,4 +1,5 @@
 #!/bin/sh
+# SPDX-License-Identifier: Apache-2.0 OR MIT
 # Makes confd_VERSION_ARCH.deb, a package of Debian's, of the program that is built: VERSION is what the file VERSION at
 # the top says, and ARCH what dpkg says of this machine.
 #

@@ -1,4 +1,5 @@
 #!/bin/sh
+# SPDX-License-Identifier: Apache-2.0 OR MIT
 # Packs the client as confd-client_VERSION_all.deb, beside the server's package.
 #
 #     deploy/package_client.sh [FOLDER]        into FOLDER, the current one if none is named

@@ -1,3 +1,4 @@
+# SPDX-License-Identifier: Apache-2.0 OR MIT
 """A store's two formats, journals and databases, row by row: written from docs/STORE.md and from nothing else.
 
 No script of its own: move_store.py uses it, and so do checks/lib/journal_file.py and what builds on that.

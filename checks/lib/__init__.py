@@ -1,3 +1,4 @@
+# SPDX-License-Identifier: Apache-2.0 OR MIT
 """What several scripts of checks/ and bench/ share. bench/lib is a link to this folder.
 
 How checks are run: `checking`. The program: `places`, `program`, `server`, `wire`, `timing`. What it keeps: `database`,

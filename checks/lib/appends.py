@@ -1,3 +1,4 @@
+# SPDX-License-Identifier: Apache-2.0 OR MIT
 """Registrations while one call of the system fails: what is answered, what is told, and what the store has then."""
 
 import collections

@@ -1,3 +1,4 @@
+# SPDX-License-Identifier: Apache-2.0 OR MIT
 """The best plan of assignments, found otherwise than the program finds it, and from whole numbers alone.
 
 All plans have as many pairs. So an earlier pair is made to weigh more than all later ones together, and a bid more than

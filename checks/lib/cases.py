@@ -1,3 +1,4 @@
+# SPDX-License-Identifier: Apache-2.0 OR MIT
 """What the cases of crates/conformance/data send and what is due there: `exchanges` gives requests with their answers.
 
 The head of crates/conformance/src/main.rt lists the forms of a line. Those of the store, of faults and of ends tell no

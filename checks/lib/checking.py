@@ -1,3 +1,4 @@
+# SPDX-License-Identifier: Apache-2.0 OR MIT
 """How a script of checks/ runs its checks: functions of a program and a folder, whose docs are the lines it prints."""
 
 import shutil

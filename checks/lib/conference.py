@@ -1,3 +1,4 @@
+# SPDX-License-Identifier: Apache-2.0 OR MIT
 """A small conference that asks every route at least once, for memory.py, sync.py, edge.py and migration.py to run.
 
 Each step is a request with the number of rows that it adds to a store.

@@ -1,4 +1,5 @@
 #!/usr/bin/env python3
+# SPDX-License-Identifier: Apache-2.0 OR MIT
 """Runs a program under the system call filters that a unit's lines tell, as systemd does, where systemd doesn't run.
 
     python3 checks/lib/confined.py UNIT COMMAND..

@@ -1,3 +1,4 @@
+# SPDX-License-Identifier: Apache-2.0 OR MIT
 """A database that `confd` keeps, as SQLite's own library reads it."""
 
 import contextlib

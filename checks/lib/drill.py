@@ -1,3 +1,4 @@
+# SPDX-License-Identifier: Apache-2.0 OR MIT
 """A drill on the small model: the commands that `confd drill` makes up from a number, by docs/API.md."""
 
 from .model import Conference, secret_of

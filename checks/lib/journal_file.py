@@ -1,3 +1,4 @@
+# SPDX-License-Identifier: Apache-2.0 OR MIT
 """Reads and writes a journal's file (deploy/store_formats.py), and judges its rows on the small model: written from
 docs/STORE.md and from nothing else.
 """

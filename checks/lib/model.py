@@ -1,3 +1,4 @@
+# SPDX-License-Identifier: Apache-2.0 OR MIT
 """A small model of confd, written from docs/API.md, STORE.md and VIEWS.md and from nothing else.
 
 A conference is a list of entries; each answer, each rule and each line of a view is read off that list anew, with no

@@ -1,3 +1,4 @@
+# SPDX-License-Identifier: Apache-2.0 OR MIT
 """The reports of the small model: what docs/API.md says of them, read off the list of entries anew."""
 
 

@@ -1,3 +1,4 @@
+# SPDX-License-Identifier: Apache-2.0 OR MIT
 """What `confd view` prints, by the small model of `model.py`, written from docs/VIEWS.md and from nothing else.
 
 Below, `c` is a conference, `u` the reader's number, `p` a paper's; of an entry, `i` is its place, `m` its maker, `k`

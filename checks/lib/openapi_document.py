@@ -1,3 +1,4 @@
+# SPDX-License-Identifier: Apache-2.0 OR MIT
 """docs/openapi.json as checks/openapi.py reads it: its operations, its schemas, its layout, and whether it is valid.
 
 checks/openapi_3.1.schema.json is OpenAPI's own schema of a document, but for the schemas in it, as it was published:

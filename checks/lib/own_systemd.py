@@ -1,3 +1,4 @@
+# SPDX-License-Identifier: Apache-2.0 OR MIT
 """A systemd of this check's own, in namespaces of its own, which knows no unit but those that it is handed.
 
 No script of its own: unit.py uses it. Needs root, util-linux, systemd, and the control

@@ -1,3 +1,4 @@
+# SPDX-License-Identifier: Apache-2.0 OR MIT
 """README.md and the pages of docs/, as checks read them: their lines outside code, and their blocks."""
 
 import re
@@ -59,8 +60,9 @@ def blocks(text):
             head = head or cells
             open_block = None
         elif open_block is None or ITEM.match(line):
-            is_item = ITEM.match(line) is not None
-            found.append(open_block := Block(number, "item" if is_item else "paragraph", ITEM.sub("", line, count=1)))
+            mark = ITEM.match(line)
+            open_block = Block(number, "item", line[mark.end() :]) if mark else Block(number, "paragraph", line)
+            found.append(open_block)
         else:
             open_block.text += " " + line.strip().removeprefix("> ")
     return found

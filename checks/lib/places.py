@@ -1,3 +1,4 @@
+# SPDX-License-Identifier: Apache-2.0 OR MIT
 """Where things are: the top of the repository, and the program that `rt run` builds."""
 
 from pathlib import Path

@@ -1,3 +1,4 @@
+# SPDX-License-Identifier: Apache-2.0 OR MIT
 """A conference that is made up to be planned, and what its chair asks and is told."""
 
 import itertools

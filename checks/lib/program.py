@@ -1,3 +1,4 @@
+# SPDX-License-Identifier: Apache-2.0 OR MIT
 """`confd` as a process: its runs by `pipe`, what it says on standard error, and which program a script is to try."""
 
 import contextlib

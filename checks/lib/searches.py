@@ -1,4 +1,5 @@
 #!/usr/bin/env python3
+# SPDX-License-Identifier: Apache-2.0 OR MIT
 """Searches, by docs/API.md and by brute force: what a text is, and whether a search holds of a paper.
 
     checks/lib/searches.py TEXT..        the tree of each text, or the place of a bad one

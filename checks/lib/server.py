@@ -1,3 +1,4 @@
+# SPDX-License-Identifier: Apache-2.0 OR MIT
 """`confd serve` in a process of its own, and clients that talk to it over sockets."""
 
 import concurrent.futures

@@ -1,3 +1,4 @@
+/* SPDX-License-Identifier: Apache-2.0 OR MIT */
 /* Stands between confd and the C library, so that a check can refuse a call, cut it short or turn the clock.
 
    Built by checks/lib/shim.py and loaded ahead of the C library (LD_PRELOAD). SHIM_ORDERS names a file with the numbers

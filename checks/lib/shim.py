@@ -1,3 +1,4 @@
+# SPDX-License-Identifier: Apache-2.0 OR MIT
 """The shim of shim.c, built and told what to do: what checks need that refuse calls, cut them short or turn the clock.
 
 `cc` is needed, and a program that takes

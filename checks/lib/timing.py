@@ -1,3 +1,4 @@
+# SPDX-License-Identifier: Apache-2.0 OR MIT
 """What bench/ measures with: the machine's line, and the seconds of runs of `confd pipe`."""
 
 import os

@@ -1,3 +1,4 @@
+# SPDX-License-Identifier: Apache-2.0 OR MIT
 """Requests and answers as bytes: what scripts send to `confd`, and how they read what comes back."""
 
 import email.utils

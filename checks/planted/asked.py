@@ -1,3 +1,4 @@
+# SPDX-License-Identifier: Apache-2.0 OR MIT
 """What wrong_laws.py asks: the small conference as commands, twins of it,
 and commands, queries and bulks to try on each.
 

@@ -1,3 +1,4 @@
+# SPDX-License-Identifier: Apache-2.0 OR MIT
 """Reads the rows of plants that stand beside this, and plants one. README.md here says the form."""
 import glob
 import os

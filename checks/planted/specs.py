@@ -1,3 +1,4 @@
+# SPDX-License-Identifier: Apache-2.0 OR MIT
 """Computes definitions out of specs/*.antt, on closed values and with no prover, for wrong_tables.py and wrong_laws.py.
 
 It reads the part of the language in which tables, facts and clauses are written: equations by cases, records, lists, λ,

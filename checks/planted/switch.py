@@ -1,3 +1,4 @@
+# SPDX-License-Identifier: Apache-2.0 OR MIT
 """Plants many rows in one copy of the crates, of which a number that the run is given chooses one.
 
 To build a program costs far more than to run it. So beside each function that a row changes stands a twin with the

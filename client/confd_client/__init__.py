@@ -1,3 +1,4 @@
+# SPDX-License-Identifier: Apache-2.0 OR MIT
 """A client for confd, the conference review server: a library, and the command `confd-client`.
 
     from confd_client import Client, Credentials

@@ -1,3 +1,4 @@
+# SPDX-License-Identifier: Apache-2.0 OR MIT
 """What confd answers, as values: a dataclass for each form of answer.
 
 Names of classes and fields are those of docs/openapi.json where it has one. A field whose key the caller isn't told is

@@ -1,3 +1,4 @@
+# SPDX-License-Identifier: Apache-2.0 OR MIT
 """Bulks: files of comma-separated values that assign, declare and tag, many at once (docs/API.md, section 8)."""
 
 from __future__ import annotations

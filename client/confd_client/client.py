@@ -1,3 +1,4 @@
+# SPDX-License-Identifier: Apache-2.0 OR MIT
 """`Client`: confd's operations as methods."""
 
 from __future__ import annotations

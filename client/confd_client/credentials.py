@@ -1,3 +1,4 @@
+# SPDX-License-Identifier: Apache-2.0 OR MIT
 """Who the caller is: a name and a secret. A secret is never part of a command line, which others can see."""
 
 from __future__ import annotations

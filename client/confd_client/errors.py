@@ -1,3 +1,4 @@
+# SPDX-License-Identifier: Apache-2.0 OR MIT
 """What may go wrong, as exceptions.
 
 `Refusal` and its subclasses are the server's refusals, one class for each error of docs/API.md, section 3, named as the

@@ -1,3 +1,4 @@
+# SPDX-License-Identifier: Apache-2.0 OR MIT
 """All that a caller is shown of a conference, and the files that keep it.
 
 What the server refuses is left out and noted under its error's name: an export shows its caller what the server's

@@ -1,3 +1,4 @@
+# SPDX-License-Identifier: Apache-2.0 OR MIT
 """Files that a command writes: whole or not at all, for their owner alone, and never over another's.
 
 Whatever the system refuses is a `BadFile` that names the file.

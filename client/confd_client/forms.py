@@ -1,3 +1,4 @@
+# SPDX-License-Identifier: Apache-2.0 OR MIT
 """Review forms as text files: a reviewer writes one in any editor, and it is checked before it is sent.
 
 The layout follows the offline forms of HotCRP (its manual, "Offline reviewing"): a line that begins with ``==*==`` is

@@ -1,3 +1,4 @@
+# SPDX-License-Identifier: Apache-2.0 OR MIT
 """Letters to authors, composed by a chair: what the server would answer each author by GET `/reports/letter/{p}`.
 
 A letter is made of four things and no others: a paper's number, its title, the last decision, and of the last form

@@ -1,3 +1,4 @@
+# SPDX-License-Identifier: Apache-2.0 OR MIT
 """The overview of an export: one page of HTML with tables that sort and plots, which needs no network.
 
 Whatever others wrote is text on it: the template escapes each value, and the page's Content-Security-Policy allows its

@@ -1,3 +1,4 @@
+# SPDX-License-Identifier: Apache-2.0 OR MIT
 """Plans of assignments of any size: the pairs of a paper and a member whose bids have the greatest sum."""
 
 from __future__ import annotations

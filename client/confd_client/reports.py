@@ -1,3 +1,4 @@
+# SPDX-License-Identifier: Apache-2.0 OR MIT
 """The reports, which the server answers as plain text with columns of fixed widths (docs/API.md, section 7).
 
 Titles have no control characters below U+0020 and no U+007F, so a line feed ends a line; other characters that Python

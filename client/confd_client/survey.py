@@ -1,3 +1,4 @@
+# SPDX-License-Identifier: Apache-2.0 OR MIT
 """How a conference stands, as far as one chair is told: put together from reports and pages.
 
 confd has no read that tells which reviews are missing: that is on each paper's page. So a survey reads each page once

@@ -1,3 +1,4 @@
+# SPDX-License-Identifier: Apache-2.0 OR MIT
 """Files of comma-separated values that users hand in and get."""
 
 from __future__ import annotations

@@ -1,3 +1,4 @@
+# SPDX-License-Identifier: Apache-2.0 OR MIT
 """Requests and answers over HTTP, and how they are sent again until they are answered."""
 
 from __future__ import annotations

@@ -1,3 +1,4 @@
+# SPDX-License-Identifier: Apache-2.0 OR MIT
 """What the tests share: a server of each test's own, its users, and calls of the command line.
 
 The program is the one that CONFD_PROGRAM names, else crates/confd/out/confd, as `rt run` makes it.

@@ -1,3 +1,4 @@
+# SPDX-License-Identifier: Apache-2.0 OR MIT
 """What stands between a client and the server, and does the worst that it may do: a gateway and a relay."""
 
 from __future__ import annotations

@@ -1,3 +1,4 @@
+# SPDX-License-Identifier: Apache-2.0 OR MIT
 """Runs docs/CLIENT.md: each command of it as it is typed, against a server, and what others do meanwhile.
 
 A block ```console has lines `NAME$ COMMAND`, and below each what it prints, on either stream. A line `...` of what is

@@ -1,3 +1,4 @@
+# SPDX-License-Identifier: Apache-2.0 OR MIT
 """What all commands share: progress, what is printed, how many requests are asked, and where secrets may stand."""
 
 from __future__ import annotations

@@ -1,3 +1,4 @@
+# SPDX-License-Identifier: Apache-2.0 OR MIT
 """`assign`: large files, an order by chance, and what happens when it is broken off. Nothing is done twice or lost."""
 
 from __future__ import annotations

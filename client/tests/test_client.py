@@ -1,3 +1,4 @@
+# SPDX-License-Identifier: Apache-2.0 OR MIT
 """Each method of the library against the server, and each refusal that a client can meet, by its name.
 
 What is expected is what docs/API.md says.

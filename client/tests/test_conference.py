@@ -1,3 +1,4 @@
+# SPDX-License-Identifier: Apache-2.0 OR MIT
 """A whole conference by the command line alone, as scripts would: 300 accounts, 42 members, 120 papers of 300 KB.
 
 Each step is a call with `--json`, and what it tells is compared with what the conference was given.

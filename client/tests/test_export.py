@@ -1,3 +1,4 @@
+# SPDX-License-Identifier: Apache-2.0 OR MIT
 """Exports: all that the caller is shown, and nothing that runs."""
 
 from __future__ import annotations

@@ -1,3 +1,4 @@
+# SPDX-License-Identifier: Apache-2.0 OR MIT
 """Files that users hand in: tables, rows of bulks, secrets."""
 
 from __future__ import annotations

@@ -1,3 +1,4 @@
+# SPDX-License-Identifier: Apache-2.0 OR MIT
 """Review forms: what they keep, what is wrong with them, and how they are made and sent."""
 
 from __future__ import annotations

@@ -1,3 +1,4 @@
+# SPDX-License-Identifier: Apache-2.0 OR MIT
 """docs/CLIENT.md: each command prints what the page says."""
 
 from __future__ import annotations

@@ -1,3 +1,4 @@
+# SPDX-License-Identifier: Apache-2.0 OR MIT
 """Letters: they tell authors what the server tells them, and nothing else."""
 
 from __future__ import annotations

@@ -1,3 +1,4 @@
+# SPDX-License-Identifier: Apache-2.0 OR MIT
 """The commands of members and authors, asked of a server."""
 
 from __future__ import annotations

@@ -1,3 +1,4 @@
+# SPDX-License-Identifier: Apache-2.0 OR MIT
 """The library beside docs/openapi.json and docs/API.md, both ways: methods, requests, answers, errors."""
 
 from __future__ import annotations

@@ -1,3 +1,4 @@
+# SPDX-License-Identifier: Apache-2.0 OR MIT
 """The overview in a browser: headless Chromium, by the Debian packages chromium-driver and python3-selenium."""
 
 from __future__ import annotations

@@ -1,3 +1,4 @@
+# SPDX-License-Identifier: Apache-2.0 OR MIT
 """The client's two packages: by pip, and for Debian. Both are made without a network."""
 
 from __future__ import annotations

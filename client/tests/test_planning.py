@@ -1,3 +1,4 @@
+# SPDX-License-Identifier: Apache-2.0 OR MIT
 """Plans: the server's and those that are made here, for the same sum and what only the latter can."""
 
 from __future__ import annotations

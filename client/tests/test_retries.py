@@ -1,3 +1,4 @@
+# SPDX-License-Identifier: Apache-2.0 OR MIT
 """Lost connections, gateways' errors and a killed server: each command acts once."""
 
 from __future__ import annotations

@@ -1,3 +1,4 @@
+# SPDX-License-Identifier: Apache-2.0 OR MIT
 """The command `confd-client`: a group of commands, each in a module of its own.
 
 A module of this package that is named in `MODULES` has `command`, a `click.Command` made by

@@ -1,3 +1,4 @@
+# SPDX-License-Identifier: Apache-2.0 OR MIT
 """What the commands share: who asks which server, how they print, count and ask, and how they end."""
 
 from __future__ import annotations

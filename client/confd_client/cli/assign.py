@@ -1,3 +1,4 @@
+# SPDX-License-Identifier: Apache-2.0 OR MIT
 """`confd-client assign`: does what a plan, or any file of rows, asks for."""
 
 from __future__ import annotations

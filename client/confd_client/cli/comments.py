@@ -1,3 +1,4 @@
+# SPDX-License-Identifier: Apache-2.0 OR MIT
 """`confd-client comments`: the committee's comments on a paper."""
 
 from __future__ import annotations

@@ -1,3 +1,4 @@
+# SPDX-License-Identifier: Apache-2.0 OR MIT
 """`confd-client conflicts`: declares conflicts from a file."""
 
 from __future__ import annotations

@@ -1,3 +1,4 @@
+# SPDX-License-Identifier: Apache-2.0 OR MIT
 """`confd-client deadline`: the deadlines of the phases."""
 
 from __future__ import annotations

@@ -1,3 +1,4 @@
+# SPDX-License-Identifier: Apache-2.0 OR MIT
 """`confd-client decide`: decides on papers from a file."""
 
 from __future__ import annotations

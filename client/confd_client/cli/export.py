@@ -1,3 +1,4 @@
+# SPDX-License-Identifier: Apache-2.0 OR MIT
 """`confd-client export`: all that the caller is shown, as files."""
 
 from __future__ import annotations

@@ -1,3 +1,4 @@
+# SPDX-License-Identifier: Apache-2.0 OR MIT
 """`confd-client fetch`: papers' contents, as files."""
 
 from __future__ import annotations

@@ -1,3 +1,4 @@
+# SPDX-License-Identifier: Apache-2.0 OR MIT
 """`confd-client form`: review forms to fill in."""
 
 from __future__ import annotations

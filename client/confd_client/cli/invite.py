@@ -1,3 +1,4 @@
+# SPDX-License-Identifier: Apache-2.0 OR MIT
 """`confd-client invite`: invites reviewers from outside the committee."""
 
 from __future__ import annotations

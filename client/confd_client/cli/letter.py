@@ -1,3 +1,4 @@
+# SPDX-License-Identifier: Apache-2.0 OR MIT
 """`confd-client letter`: what became of one's own papers."""
 
 from __future__ import annotations

@@ -1,3 +1,4 @@
+# SPDX-License-Identifier: Apache-2.0 OR MIT
 """`confd-client letters`: letters to all authors, for a mailer."""
 
 from __future__ import annotations

@@ -1,3 +1,4 @@
+# SPDX-License-Identifier: Apache-2.0 OR MIT
 """`confd-client mode`: who sees names."""
 
 from __future__ import annotations

@@ -1,3 +1,4 @@
+# SPDX-License-Identifier: Apache-2.0 OR MIT
 """`confd-client papers`: what is the caller's to review, and what the caller submitted, with what is missing."""
 
 from __future__ import annotations

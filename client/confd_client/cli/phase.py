@@ -1,3 +1,4 @@
+# SPDX-License-Identifier: Apache-2.0 OR MIT
 """`confd-client phase`: which phase it is, and on to the next."""
 
 from __future__ import annotations

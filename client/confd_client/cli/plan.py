@@ -1,3 +1,4 @@
+# SPDX-License-Identifier: Apache-2.0 OR MIT
 """`confd-client plan`: whom to assign, so that the bids are met best."""
 
 from __future__ import annotations

@@ -1,3 +1,4 @@
+# SPDX-License-Identifier: Apache-2.0 OR MIT
 """Posts rows of bulks in pieces, so that each is done once however often the program or the server is broken off.
 
 Before the first piece is sent, all of them are written beside the rows' file, as FILE.sent, each with its

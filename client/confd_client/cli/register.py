@@ -1,3 +1,4 @@
+# SPDX-License-Identifier: Apache-2.0 OR MIT
 """`confd-client register`: makes an account."""
 
 from __future__ import annotations

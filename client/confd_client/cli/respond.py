@@ -1,3 +1,4 @@
+# SPDX-License-Identifier: Apache-2.0 OR MIT
 """`confd-client respond`: responds to a paper's reviews."""
 
 from __future__ import annotations

@@ -1,3 +1,4 @@
+# SPDX-License-Identifier: Apache-2.0 OR MIT
 """`confd-client revise`: gives a paper another title or abstract."""
 
 from __future__ import annotations

@@ -1,3 +1,4 @@
+# SPDX-License-Identifier: Apache-2.0 OR MIT
 """`confd-client search`: papers that a search finds."""
 
 from __future__ import annotations

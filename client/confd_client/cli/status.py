@@ -1,3 +1,4 @@
+# SPDX-License-Identifier: Apache-2.0 OR MIT
 """`confd-client status`: how the conference stands."""
 
 from __future__ import annotations

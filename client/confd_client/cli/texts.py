@@ -1,3 +1,4 @@
+# SPDX-License-Identifier: Apache-2.0 OR MIT
 """Texts and contents that users hand in as files, and their bounds (docs/openapi.json)."""
 
 from __future__ import annotations

@@ -1,3 +1,4 @@
+# SPDX-License-Identifier: Apache-2.0 OR MIT
 """`confd-client withdraw`: withdraws a paper."""
 
 from __future__ import annotations
