@@ -1,4 +1,5 @@
 #!/usr/bin/env python3
+# SPDX-License-Identifier: Apache-2.0 OR MIT
 """Tries deploy/package.sh: a package of Debian's that is made, unpacked, and whose program runs.
 
     python3 checks/package.py [PROGRAM]
@@ -107,14 +108,14 @@ def runs(program, folder):
 
 
 def page(program, folder):
-    """man renders the page without a warning; it has each command, option, status and message of RUNNING and STORE."""
+    """man renders the page without a warning; it has each command, option, status and message of RUNNING."""
     path = os.path.join(unpacked(program, folder), "usr/share/man/man1/confd.1.gz")
     text = said("man", "--warnings", "-l", path, env={**os.environ, **WIDE})
     lines = {line.strip() for line in text.splitlines()}
     expect(f"confd {version()}" in text, "the page doesn't say the version")
     for name, head, column in (
         ("RUNNING", "|words|what it does|", 1), ("RUNNING", "|option|what it says|", 1),
-        ("RUNNING", "|standard error|what to do|", 1), ("STORE", "|status|meaning|standard error|what to do|", 1),
+        ("RUNNING", "|standard error|what to do|", 1), ("RUNNING", "|status|meaning|standard error|what to do|", 1),
     ):  # fmt: skip
         rows = read(os.path.join(TOP, "docs", f"{name}.md")).decode().split(head + "\n")[1].split("\n\n")[0]
         for row in rows.splitlines()[1:]:

@@ -1,5 +1,6 @@
 #!/usr/bin/env python3
-"""Prints confd(1): deploy/confd.1.in with the tables of docs/RUNNING.md and docs/STORE.md, which are written once.
+# SPDX-License-Identifier: Apache-2.0 OR MIT
+"""Prints confd(1): deploy/confd.1.in with the tables of docs/RUNNING.md, which are written once.
 
     deploy/man_page.py DATE VERSION
 
@@ -15,7 +16,7 @@ TOP = pathlib.Path(__file__).resolve().parent.parent
 TABLES = {
     "@COMMANDS@": ("docs/RUNNING.md", "|words|what it does|", 0, (1,)),
     "@OPTIONS@": ("docs/RUNNING.md", "|option|what it says|", 0, (1,)),
-    "@STATUSES@": ("docs/STORE.md", "|status|meaning|standard error|what to do|", 0, (1, 3)),
+    "@STATUSES@": ("docs/RUNNING.md", "|status|meaning|standard error|what to do|", 0, (1, 3)),
     "@MESSAGES@": ("docs/RUNNING.md", "|standard error|what to do|", 0, (1,)),
 }
 SENTENCE = re.compile(r"(?<=[.;:])\s+")
