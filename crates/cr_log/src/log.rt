@@ -1,5 +1,5 @@
 //! The history, and where in it the entries under each number stand.
-ghost use Rattle.std.specs.Prelude.{◌≡◌, ◌≤◌, ◌++◌, ◌↔◌, [], IsTrue, OnOk, length};
+ghost use Rattle.std.specs.Prelude.{◌≡◌, ◌≤◌, ◌+◌, ◌/◌, ◌++◌, ◌↔◌, [], IsTrue, OnOk, length, max, vec_len, vec_capacity};
 ghost use Rattle.cr_base.specs.Keys.{kept_under, IsUnused};
 ghost use Rattle.cr_log.specs.Given.{MayFollow};
 ghost use Rattle.cr_log.specs.Room.{HasRoom};
@@ -124,14 +124,16 @@ impl Log {
     }
 
     /// Takes the memory that the entries of one command need, and where the command has a number that for its place;
-    /// an error only for lack of memory. The entries are the same either way.
+    /// an error only for lack of memory. The entries are the same either way. Where there was too little room for the
+    /// entries, there is room for as many as an eighth of those kept, or for these where they are more.
     pub fn room(&mut self, group: &[Stamped]) -> Result<(), AllocError>
         ensures ok { OnOk result (HasRoom self.new group.now) }
         ensures same { self.new.entries ≡ self.old.entries }
         ensures keeps { self.old.room ≤ self.new.room }
         ensures keeps_numbers { self.old.numbers ≤ self.new.numbers }
+        ensures spare { self.new.room ≤ max self.old.room (max (length group.now) (length self.old.entries / 8)) }
     {
-        self.entries.reserve(group.len())?;
+        make_room(&mut self.entries, group.len())?;
         match number_given(group) {
             Some(_) => self.index.reserve(1),
             None => Ok(()),
@@ -160,4 +162,20 @@ impl Log {
             Err(_) => unreachable!(),
         }
     }
+}
+
+/// Takes memory for so many more entries where it lacks, and then for at least an eighth of those there, so that spare
+/// room stays small and each entry is moved some nine times at most while the history grows. An error only for lack of
+/// memory; the entries are the same either way.
+fn make_room(entries: &mut Vec<Stamped>, count: usize) -> Result<(), AllocError>
+    ensures ok { OnOk result (vec_len entries.new + count ≤ vec_capacity entries.new) }
+    ensures same { entries.new.items ≡ entries.old.items }
+    ensures keeps { vec_capacity entries.old ≤ vec_capacity entries.new }
+    ensures spare { vec_capacity entries.new
+        ≤ max (vec_capacity entries.old) (vec_len entries.old + max count (vec_len entries.old / 8)) }
+{
+    if count <= entries.capacity() - entries.len() {
+        return Ok(());
+    }
+    entries.reserve_exact(count.max(entries.len() / 8))
 }
