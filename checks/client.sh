@@ -10,7 +10,9 @@
 top=$(cd "$(dirname "$0")/.." && pwd) || exit 1
 program=$(realpath "${1:-$top/crates/confd/out/confd}") || exit 1
 python=/usr/bin/python3
-if ! $python -c 'import click, flake8, jinja2, mypy, pytest, requests, rich, scipy' 2> /dev/null; then
+# (Debian's stubs, by which mypy knows the types of requests, can't be imported, so they are looked for by their folder)
+if ! $python -c 'import click, flake8, jinja2, mypy, pytest, requests, rich, scipy, os, sys
+sys.exit(not any(os.path.isdir(os.path.join(at, "requests-stubs")) for at in sys.path))' 2> /dev/null; then
     echo "the client isn't tried: checks/packages.sh installs what that needs"
     exit 0
 fi

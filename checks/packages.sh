@@ -20,7 +20,7 @@ packages() {
         gate) echo curl gcc libc6-dev python3-jsonschema python3-scipy strace ;;
         client)
             echo python3-click python3-jinja2 python3-requests python3-rich python3-scipy
-            echo python3-pytest mypy flake8
+            echo python3-pytest python3-typeshed mypy flake8
             echo chromium chromium-driver python3-selenium
             echo python3-pip python3-setuptools python3-venv python3-wheel
             ;;
