@@ -322,7 +322,8 @@ abbrev pub is_conflicted_in_view : Option ℕ → ℕ → View → Bool
 is_conflicted_in_view u p V = is_author_in_view u p V || is_conflict_on_in_view u p V
 
 -- for an author: whom those conflicts name that are her own, or name another than her, or stand before the
--- bidding was opened. Where the history is legal, an author made each of these, and no others
+-- bidding was opened. Where the history is legal, an author made each of these, and no others, so that they are the
+-- history's `declared_by_authors` (`law_declared`): a view shows no maker
 abbrev pub declared_in_view : Option ℕ → ℕ → View → List ℕ
 declared_in_view u p V =
     flat_map (conflict_user_seen p) (until bidding_seen V) ++ flat_map (own_or_other_seen u p) (since bidding_seen V)
@@ -375,9 +376,8 @@ reviewers_in_view p V = seats_left (flat_map (unassigned_seen p) V) (seats_in_vi
 -- ---- reviews, responses, comments and tags
 
 -- of each label's forms that are shown the last, which the paper's authors read in the end; the last before
--- the response, where it was opened, which they read before the end; the last before the discussion and all later ones,
--- which the committee discusses; the reader's own, which a reviewer reads until the discussion, and one from outside
--- the committee from the reviewing on; and whether there is one
+-- the response, where it was opened, which they read before the end; and the last before the discussion and all later
+-- ones, which the committee discusses
 abbrev pub forms_in_view : ℕ → ℕ → View → List FormTold
 forms_in_view p o V = flat_map (form_seen p o) V
 
@@ -392,9 +392,13 @@ abbrev pub forms_discussed_in_view : ℕ → ℕ → View → List FormTold
 forms_discussed_in_view p o V =
     listed (last (forms_in_view p o (until discussion_seen V))) ++ forms_in_view p o (since discussion_seen V)
 
+-- the reader's own, which a reviewer reads until the discussion, and one from outside the committee from the reviewing
+-- on: by the mark that they are hers, as the history's `own_forms_of` goes by their maker. The tables keep no maker of a
+-- form, and have those under her label (`own_forms_in`): the same where whoever has written stays a reviewer
 abbrev pub own_forms_in_view : ℕ → View → List FormTold
 own_forms_in_view p V = flat_map (own_form_seen p) V
 
+-- and whether there is one under the label
 abbrev pub is_written_in_view : ℕ → ℕ → View → Bool
 is_written_in_view p o V = last_or false (flat_map (done_seen p o) V)
 
