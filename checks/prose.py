@@ -18,8 +18,10 @@ from lib.pages import PAGES, blocks, plain, sentences, words
 from lib.places import TOP
 
 # The pages that are written by these rules.
-HELD = ("README.md", "CHANGELOG.md", "API.md", "CHAIR.md", "COCON.md", "CONTRIBUTING.md", "RUNNING.md", "STORE.md",
-        "TOUR.md", "TRUST.md", "VIEWS.md")
+HELD = (
+    "README.md", "CHANGELOG.md", "API.md", "CHAIR.md", "CLIENT.md", "COCON.md", "CONTRIBUTING.md", "RUNNING.md",
+    "STORE.md", "TOUR.md", "TRUST.md", "VIEWS.md",
+)  # fmt: skip
 MOST_WORDS = 30
 # Pages on which citing a theorem is claiming it.
 CLAIMING = ("README.md", "TRUST.md", "CLAIMS.md")
