@@ -8,6 +8,7 @@ each definition that a definition reached names, which is what has to be read.
 
 import functools
 import re
+import sys
 from dataclasses import dataclass
 
 from .places import TOP
@@ -76,8 +77,10 @@ def roots(file, functions):
     for crate, name, braces in GHOST.findall(text):
         cited |= imported(braces, crate, name)
     for function in functions:
-        begin = re.search(rf"^ *pub fn {function}\b", text, re.M).start()
-        contract = text[begin : begin + re.search(r"^\{", text[begin:], re.M).start()]
+        begin = re.search(rf"^pub fn {function}\b", text, re.M)
+        if begin is None:
+            sys.exit(f"{file} has no function {function}")
+        contract = re.split(r"^\{", text[begin.start() :], maxsplit=1, flags=re.M)[0]
         found |= {target for name, target in cited.items()
                   if re.search(rf"(?<![\w.]){re.escape(name)}(?![\w'])", contract)}
     return found
