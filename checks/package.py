@@ -32,6 +32,8 @@ FILES = {
     "usr/share/confd/move_store.py": "deploy/move_store.py",
     "usr/share/confd/store_formats.py": "deploy/store_formats.py",
     "usr/share/doc/confd/examples/nginx.conf": "deploy/nginx.conf",
+    "usr/share/doc/confd/CHAIR.md": "docs/CHAIR.md",
+    "usr/share/doc/confd/CHANGELOG.md": "CHANGELOG.md",
     "usr/share/doc/confd/copyright": None,
     "usr/share/man/man1/confd.1.gz": None,
 }

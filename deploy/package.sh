@@ -37,9 +37,10 @@ install -D -m 644 "$top/deploy/store_formats.py" "$root/usr/share/confd/store_fo
 install -d -m 755 "$root/etc/confd"
 documents=$root/usr/share/doc/confd
 install -D -m 644 "$top/deploy/nginx.conf" "$documents/examples/nginx.conf"
-for page in API RUNNING STORE VIEWS; do
+for page in API CHAIR RUNNING STORE VIEWS; do
     install -m 644 "$top/docs/$page.md" "$documents/$page.md"
 done
+install -m 644 "$top/CHANGELOG.md" "$documents/CHANGELOG.md"
 install -m 644 "$top/docs/openapi.json" "$documents/openapi.json"
 install -d "$root/usr/share/man/man1"
 python3 "$top/deploy/man_page.py" "$(date -u -d "@$moment" +%F)" "$version" |
