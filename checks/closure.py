@@ -19,14 +19,19 @@ from lib.specs import by_imports, by_names, lines_of, module, roots
 
 PAGE = TOP / "docs/TRUST.md"
 BEGIN, END = "<!-- written by checks/closure.py --write -->\n", "<!-- end -->"
-# The steps of the page: what each is about, and the functions whose contracts say it, by their file.
+# The steps of the page: what each is about, its status, and the functions and traits whose contracts say it, by file.
 STEPS = (
-    ("what a user may see", "crates/cr_bounds/src/lib.rt", ("law_bounds", "law_response_bound")),
-    ("which commands the rules accept", "crates/cr_permissions/src/lib.rt", ("law_permissions", "law_bulk")),
-    ("every answer from the caller's view", "crates/cr_session/src/laws.rt", ("law_two_runs",)),
-    ("whole runs, from bytes to bytes", "crates/cr_top/src/run.rt", ("top",)),
-    ("what can't be ruled out", "crates/cr_undeduced/src/lib.rt", ("law_undeducible",)),
-    ("what a crash leaves", "crates/cr_journal/src/keeper.rt", ("law_stops",)),
+    ("what a user may see", "Proved", {"crates/cr_bounds/src/lib.rt": ("law_bounds", "law_response_bound")}),
+    ("which commands the rules accept", "Proved", {"crates/cr_permissions/src/lib.rt": ("law_permissions", "law_bulk")}),
+    ("every answer from the caller's view", "Proved", {"crates/cr_session/src/laws.rt": ("law_two_runs",)}),
+    ("whole runs, from bytes to bytes", "Proved", {"crates/cr_top/src/run.rt": ("top",)}),
+    ("what can't be ruled out", "Proved", {"crates/cr_undeduced/src/lib.rt": ("law_undeducible",)}),
+    ("what a crash leaves", "Proved", {"crates/cr_journal/src/keeper.rt": ("law_stops",)}),
+    (
+        "what a disk does",
+        "Assumed of files",
+        {"crates/cr_disks/src/disk.rt": ("Disk",), "crates/cr_disks/src/disks.rt": ("Disks",)},
+    ),
 )
 # Code whose effects outside the program no contract sees.
 OUTSIDE = ("cr_net", "cr_files", "cr_sqlite", "cr_notices", "cr_stores", "cr_process", "confd")
@@ -61,23 +66,28 @@ def listed(new):
         yield from textwrap.wrap(f"{crate}: {', '.join(told)}", COLUMNS, subsequent_indent="    ")
 
 
+def cited_by(files):
+    """What the contracts of these functions and traits cite, which stand by the file that has them."""
+    return set().union(*(roots(file, names) for file, names in files.items()))
+
+
 def block():
     """The marked block: a table of the steps, and the files of each."""
-    table = ["|step|theorems|status|files|lines|new lines|whole files|their lines|", "|---" * 8 + "|"]
+    table = ["|step|contracts|status|files|lines|new lines|whole files|their lines|", "|---" * 8 + "|"]
     lists, seen, imported = [], set(), set()
-    for number, (title, file, functions) in enumerate(STEPS, 1):
-        cited = roots(file, functions)
+    for number, (title, status, contracts) in enumerate(STEPS, 1):
+        cited = cited_by(contracts)
         named, files = by_names(cited), by_imports(cited)
         counts = (len({one[:2] for one in named}), lines_of(named), lines_of(named - seen), len(files),
                   sum(module(*one).lines() for one in files))
-        names = ", ".join(f"`{name}`" for name in functions)
-        table.append(f"|{number}. {title}|{names}|Proved|" + "|".join(f"{count:,}" for count in counts) + "|")
+        names = ", ".join(f"`{name}`" for functions in contracts.values() for name in functions)
+        table.append(f"|{number}. {title}|{names}|{status}|" + "|".join(f"{count:,}" for count in counts) + "|")
         lists += [f"{number}. {title}", *("    " + line for line in listed(named - seen)), ""]
         seen |= named
         imported |= files
     crates = {path.name for path in (TOP / "crates").iterdir()}
     rest = [
-        f"|definitions that the six steps name|{len({one[:2] for one in seen})}|{lines_of(seen):,}|",
+        f"|definitions that the steps name|{len({one[:2] for one in seen})}|{lines_of(seen):,}|",
         f"|the whole files, with all that they import|{len(imported)}|"
         f"{sum(module(*one).lines() for one in imported):,}|",
         f"|code whose effects no contract sees ({', '.join(OUTSIDE)})||{over(OUTSIDE, 'src', 100)}|",
@@ -90,8 +100,8 @@ def block():
 def idle():
     """Prints, of each file that the theorems import, what none of them names."""
     named, files = set(), set()
-    for _, file, functions in STEPS:
-        cited = roots(file, functions)
+    for _, _, contracts in STEPS:
+        cited = cited_by(contracts)
         named |= by_names(cited)
         files |= by_imports(cited)
     for crate, name in sorted(files):

@@ -70,19 +70,25 @@ def module(crate, name):
     return Module(definitions, names, imports)
 
 
-def roots(file, functions):
-    """What the contracts of these functions of a source file cite: modules with names."""
+def contract_of(file, text, name):
+    """The contract of a public function: all that precedes its body; of a trait, all of it, with its functions'."""
+    begin = re.search(rf"^pub (fn|trait) {name}\b", text, re.M)
+    if begin is None:
+        sys.exit(f"{file} has no function or trait {name}")
+    end = r"^\{" if begin[1] == "fn" else r"^\}"
+    return re.split(end, text[begin.start() :], maxsplit=1, flags=re.M)[0]
+
+
+def roots(file, names):
+    """What the contracts of these functions and traits of a source file cite: modules with names."""
     text, found = (TOP / file).read_text(), set()
     cited = {}
     for crate, name, braces in GHOST.findall(text):
         cited |= imported(braces, crate, name)
-    for function in functions:
-        begin = re.search(rf"^pub fn {function}\b", text, re.M)
-        if begin is None:
-            sys.exit(f"{file} has no function {function}")
-        contract = re.split(r"^\{", text[begin.start() :], maxsplit=1, flags=re.M)[0]
-        found |= {target for name, target in cited.items()
-                  if re.search(rf"(?<![\w.]){re.escape(name)}(?![\w'])", contract)}
+    for name in names:
+        contract = contract_of(file, text, name)
+        found |= {target for word, target in cited.items()
+                  if re.search(rf"(?<![\w.]){re.escape(word)}(?![\w'])", contract)}
     return found
 
 
