@@ -19,8 +19,8 @@ from lib.places import TOP
 
 # The pages that are written by these rules.
 HELD = (
-    "README.md", "CHANGELOG.md", "API.md", "CHAIR.md", "CLIENT.md", "COCON.md", "CONTRIBUTING.md", "RUNNING.md",
-    "STORE.md", "TOUR.md", "TRUST.md", "VIEWS.md",
+    "README.md", "CHANGELOG.md", "API.md", "CHAIR.md", "CLAIMS.md", "CLIENT.md", "COCON.md", "CONTRIBUTING.md",
+    "RUNNING.md", "STORE.md", "TOUR.md", "TRUST.md", "VIEWS.md",
 )  # fmt: skip
 MOST_WORDS = 30
 # Pages on which citing a theorem is claiming it.
