@@ -19,12 +19,12 @@ from lib.places import TOP
 
 # The pages that are written by these rules.
 HELD = (
-    "README.md", "CHANGELOG.md", "API.md", "CHAIR.md", "CLAIMS.md", "CLIENT.md", "COCON.md", "CONTRIBUTING.md",
-    "RUNNING.md", "STORE.md", "TOUR.md", "TRUST.md", "VIEWS.md",
+    "README.md", "CHANGELOG.md", "API.md", "CHAIR.md", "CLAIMS.md", "CLAIMS_BY_CRATE.md", "CLIENT.md", "COCON.md",
+    "CONTRIBUTING.md", "RUNNING.md", "STORE.md", "TOUR.md", "TRUST.md", "VIEWS.md",
 )  # fmt: skip
 MOST_WORDS = 30
 # Pages on which citing a theorem is claiming it.
-CLAIMING = ("README.md", "TRUST.md", "CLAIMS.md")
+CLAIMING = ("README.md", "TRUST.md", "CLAIMS.md", "CLAIMS_BY_CRATE.md")
 STATUS = re.compile(r"\b(Proved|Tested|Assumed)\b")
 # What isn't written, as an expression over a plain text, and what is.
 BANNED = (
