@@ -19,10 +19,15 @@ from lib.specs import by_imports, by_names, lines_of, module, roots
 
 PAGE = TOP / "docs/TRUST.md"
 BEGIN, END = "<!-- written by checks/closure.py --write -->\n", "<!-- end -->"
-# The steps of the page: what each is about, its status, and the functions and traits whose contracts say it, by file.
+# The steps of the page: what each is about, its status, and the functions and traits whose contracts say it, by
+# their file.
 STEPS = (
     ("what a user may see", "Proved", {"crates/cr_bounds/src/lib.rt": ("law_bounds", "law_response_bound")}),
-    ("which commands the rules accept", "Proved", {"crates/cr_permissions/src/lib.rt": ("law_permissions", "law_bulk")}),
+    (
+        "which commands the rules accept",
+        "Proved",
+        {"crates/cr_permissions/src/lib.rt": ("law_permissions", "law_bulk")},
+    ),
     ("every answer from the caller's view", "Proved", {"crates/cr_session/src/laws.rt": ("law_two_runs",)}),
     ("whole runs, from bytes to bytes", "Proved", {"crates/cr_top/src/run.rt": ("top",)}),
     ("what can't be ruled out", "Proved", {"crates/cr_undeduced/src/lib.rt": ("law_undeducible",)}),

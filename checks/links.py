@@ -5,11 +5,11 @@
     python3 checks/links.py
 
 Each link leads to a file and a heading that are there; each path in backticks stands in the repository; each crate
-named is there; each name of code in backticks stands in a source file, and in docs/CLAIMS_BY_CRATE.md in one of a
-crate that its section names; the table of errors in docs/API.md has exactly the names that cr_print prints; each
-decision that is cited is there; prose stays under 100 columns, and under 51,000 words on all pages, what programs
-print not counted. Python 3 alone is needed. Prints a line for each thing that isn't so, and last `N cited, M wrong`;
-ends with status 0 where none is wrong. Takes some seconds.
+named is there, and the table in docs/ARCHITECTURE.md has each of crates.txt; each name of code in backticks stands in a
+source file, and in docs/CLAIMS_BY_CRATE.md in one of a crate that its section names; the table of errors in docs/API.md
+has exactly the names that cr_print prints; each decision that is cited is there; prose stays under 100 columns, and
+under 48,000 words on all pages, what programs print not counted. Python 3 alone is needed. Prints a line for each thing
+that isn't so, and last `N cited, M wrong`; ends with status 0 where none is wrong. Takes some seconds.
 """
 
 import fnmatch
@@ -23,7 +23,7 @@ from lib.places import TOP
 KINDS = (".rt", ".antt", ".py", ".sh", ".md", ".case", ".edit", ".txt", ".http", ".conf", ".service")
 # Pages on which every name in backticks is one of code; on the others those with `_` or `::` are.
 CLAIMS = ("CLAIMS.md", "CLAIMS_BY_CRATE.md")
-COLUMNS, WORDS = 100, 51_000
+COLUMNS, WORDS = 100, 48_000
 # What stands for a name of the reader's own, or is made when something runs.
 MADE = re.compile(r"FILE|NAME|PATH|BACKUP|COPY|/var/|/etc/|\bout/|assignments\.csv|[<>$]|^NO")
 # Names in backticks that no source has: an edit that can't be written, and a part of a goal's name.
@@ -166,6 +166,11 @@ def main():
                     wrong.append(f"{where}: no crate {crate}")
     for heading, name in names_elsewhere():
         wrong.append(f"docs/CLAIMS_BY_CRATE.md: no name {name} in the crates of {heading}")
+    listed = [name for row in re.findall(r"^\|((?:cr|tests_of)_[\w, ]+|confd|conformance)\|",
+                                         (TOP / "docs/ARCHITECTURE.md").read_text(), re.M) for name in row.split(", ")]
+    due = re.findall(r"^(\w+):", (TOP / "crates.txt").read_text(), re.M)
+    for name in sorted(set(due) ^ set(listed)):
+        wrong.append(f"docs/ARCHITECTURE.md: its table or crates.txt has {name}, and not the other")
     table = set(re.findall(r"^\| ?`([a-z_]+)` ?\| ?\d{3} ?\|", (TOP / "docs/API.md").read_text(), re.M))
     for name in sorted(error_names() ^ table):
         wrong.append(f"docs/API.md: the error {name} is printed and not in the table, or the other way round")

@@ -33,6 +33,7 @@ FILES = {
     "usr/share/confd/store_formats.py": "deploy/store_formats.py",
     "usr/share/doc/confd/examples/nginx.conf": "deploy/nginx.conf",
     "usr/share/doc/confd/CHAIR.md": "docs/CHAIR.md",
+    "usr/share/doc/confd/pictures/phases.svg": "docs/pictures/phases.svg",
     "usr/share/doc/confd/CHANGELOG.md": "CHANGELOG.md",
     "usr/share/doc/confd/copyright": None,
     "usr/share/man/man1/confd.1.gz": None,

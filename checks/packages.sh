@@ -12,6 +12,7 @@
 #     package   what makes and reads a package: deploy/package.sh, checks/package.py
 #     peers     clients and servers that confd is tried with: checks/clients.py, checks/behind_nginx.py, bench/
 #     unit      what runs the service file: checks/unit.py
+#     pictures  what lays out the graph of the crates: checks/pictures.py --write
 #     disks     file systems, and what lends one a disk that refuses a write: checks/real_disks.py
 set -eu
 
@@ -26,6 +27,7 @@ packages() {
             ;;
         package) echo binutils dpkg-dev groff-base man-db mandoc ;;
         peers) echo apache2-utils curl gunicorn nginx-light openssl python3-flask python3-requests valgrind wrk ;;
+        pictures) echo graphviz ;;
         unit) echo libseccomp2 systemd util-linux ;;
         disks) echo btrfs-progs e2fsprogs fuse mount python3-fusepy util-linux xfsprogs ;;
         *)
@@ -40,7 +42,7 @@ if [ "${1:-}" = --missing ]; then
     only_missing=yes
     shift
 fi
-[ $# -gt 0 ] || set -- gate client package peers unit disks
+[ $# -gt 0 ] || set -- gate client package peers pictures unit disks
 wanted=
 for group in "$@"; do
     wanted="$wanted $(packages "$group")" || exit

@@ -42,6 +42,8 @@ for page in API CHAIR RUNNING STORE VIEWS; do
 done
 install -m 644 "$top/CHANGELOG.md" "$documents/CHANGELOG.md"
 install -m 644 "$top/docs/openapi.json" "$documents/openapi.json"
+install -d -m 755 "$documents/pictures"
+install -m 644 "$top/docs/pictures/phases.svg" "$documents/pictures/phases.svg"
 install -d "$root/usr/share/man/man1"
 python3 "$top/deploy/man_page.py" "$(date -u -d "@$moment" +%F)" "$version" |
     gzip -9n > "$root/usr/share/man/man1/confd.1.gz"

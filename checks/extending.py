@@ -1,0 +1,53 @@
+#!/usr/bin/env python3
+# SPDX-License-Identifier: Apache-2.0 OR MIT
+"""Tries the examples of docs/EXTENDING.md: each diff of checks/extending still applies.
+
+    python3 checks/extending.py [NAME..]           whether each would apply, as `git apply` says
+    python3 checks/extending.py --build [NAME..]   applies each in a copy of the commit, and runs its cases there:
+                                                   `rt try --test` in crates/conformance, which proves nothing
+
+NAME is a diff without its ending, such as `term`; all are taken where none is named. What an example touches may have
+moved: aim its diff anew. Git is needed; with --build the toolchain too, and some minutes for each. Ends with status 0
+where all apply, and with --build where all cases come out as due.
+"""
+
+import subprocess
+import sys
+import tempfile
+
+from lib.places import TOP
+
+FOLDER = TOP / "checks/extending"
+
+
+def applies(diff):
+    """Why the diff doesn't apply; nothing where it does."""
+    done = subprocess.run(["git", "apply", "--check", diff], cwd=TOP, capture_output=True, text=True, check=False)
+    return done.stderr.strip()
+
+
+def runs(diff):
+    """Whether the cases come out as due in a copy to which the diff was applied."""
+    with tempfile.TemporaryDirectory() as folder:
+        subprocess.run(["git", "clone", "--quiet", TOP, folder], check=True)
+        subprocess.run(["git", "apply", diff], cwd=folder, check=True)
+        return subprocess.run(["rt", "try", "--test"], cwd=f"{folder}/crates/conformance", check=False).returncode == 0
+
+
+def main():
+    builds, names = sys.argv[1:2] == ["--build"], [word for word in sys.argv[1:] if word != "--build"]
+    diffs = [FOLDER / f"{name}.diff" for name in names] if names else sorted(FOLDER.glob("*.diff"))
+    wrong = 0
+    for diff in diffs:
+        why = applies(diff)
+        if not why and builds and not runs(diff):
+            why = "its cases come out otherwise"
+        if why:
+            wrong += 1
+            print(f"{diff.relative_to(TOP)}: {why}")
+    print(f"{len(diffs)} examples, {wrong} wrong")
+    return 1 if wrong else 0
+
+
+if __name__ == "__main__":
+    sys.exit(main())
