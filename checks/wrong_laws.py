@@ -11,11 +11,12 @@ and looks which laws are false of each.
 
 A rule that definition, view and tables share is the same on both sides of the law that views suffice. What refuses it
 is what is said of rules a second time: of old the invariants of cr_history and that the small conference is legal, and
-since then the clauses of `law_permissions` and `law_goes_on` of cr_permissions and of `law_first_told` of
-cr_conference. They are computed of histories that the planted rules let come about: the small conference phase by
-phase, and twins of it; for nobody and nine users, each command, query and bulk of checks/planted/asked.py. Of the
-rules as they stand all have to hold. WORD picks rows by a word of their name, or a topic. Ends with status 0 where all
-were as due.
+since then the clauses of `law_permissions` and `law_goes_on` of cr_permissions, of `law_first_told` of
+cr_conference, and `legal` of `law_undeducible` of cr_undeduced, by which no rule reads a text or a grade. They are
+computed of histories that the planted rules let come about: the small conference phase by phase, and twins of it; for
+nobody and nine users, each command, query and bulk of checks/planted/asked.py; the last of the conference with other
+values in its commands. Of the rules as they stand all have to hold. WORD picks rows by a word of their name, or a
+topic. Ends with status 0 where all were as due.
 """
 import concurrent.futures
 import functools
@@ -180,6 +181,8 @@ class Laws:
         stages, refused = rules.stages()
         if refused:
             self.note("legal", refused[0])
+        else:
+            self.of_others()
         for name, H in stages.items():
             self.at(name, H, asked.ALONE.get(name))
         self.of_rows()
@@ -224,6 +227,19 @@ class Laws:
                 self.note("invariants", (name, u, command))
             before += (e,)
 
+    def of_others(self):
+        """The conference with other values in its commands: what was accepted is (the clause `legal` of
+        `law_undeducible`, where nobody looks)."""
+        steps = [step for step in asked.conference() if not isinstance(step, str)]
+        responds = asked.TWINS["responses are discussed"][1]
+        for seed in range(8):
+            for chosen in (steps, steps[:-9] + responds):
+                others = [(u, asked.with_others(seed, place, command)) for place, (u, command) in enumerate(chosen)]
+                refused = self.rules.behind(History(()), others)[1]
+                if refused:
+                    self.note("undeduced", refused[0])
+                    return
+
     def of_rows(self):
         for action, command in asked.ROWS.items():
             row = asked.row("7", action, "bob", "t")
@@ -254,8 +270,9 @@ def computed(row):
 
 
 def due(row):
-    """The laws that a row says are false: the new ones, and those of old."""
-    return set(row.words("clauses")) | set(row.words("of old"))
+    """The laws that a row says are false: the new ones, those of old, and that nothing hidden can be ruled out."""
+    undeduced = {"undeduced"} if row.words("undeduced") else set()
+    return set(row.words("clauses")) | set(row.words("of old")) | undeduced
 
 
 def by_computing(rows):

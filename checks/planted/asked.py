@@ -5,6 +5,8 @@ and commands, queries and bulks to try on each.
 Values are those that specs.py computes with: a variant is its name with its parts, a text its bytes, a paper or a name
 that may be missing an option.
 """
+import random
+
 NONE = ("None",)
 # When all is asked: the moment of the small conference (`morning` in Witness.antt of cr_policy).
 MORNING = 1_772_442_000
@@ -84,6 +86,28 @@ def conference():
               (alice, ("Decide", some(1), ("Accept",))), "discussion",
               (alice, ("SetPhase", ("Notification",))), "notification", (alice, ("SetPhase", ("Closed",))), "closed"]
     return steps
+
+
+def with_others(seed, place, command):
+    """The command with other values of all that no rule should read, made up for its place."""
+    dice = random.Random(1000 * seed + place)
+    text = lambda: words(f"other {dice.randint(1000, 9999)}")
+    kind, *parts = command
+    grades = {"score": dice.randint(1, 5), "confidence": dice.randint(1, 5)}
+    filled = {
+        "Register": lambda: [parts[0], tuple(dice.randbytes(32))],
+        "Submit": lambda: [text(), dice.choice([(), text()]), parts[2]],
+        "Revise": lambda: [parts[0], text(), dice.choice([(), text()])],
+        "Upload": lambda: [parts[0], dice.choice([(), text()])],
+        "Bid": lambda: [parts[0], dice.randint(0, 40)],
+        "Assign": lambda: [parts[0], parts[1], (dice.choice(["Primary", "Secondary", "Pc"]),)],
+        "Review": lambda: [parts[0], {**grades, "to_authors": dice.choice([(), text()]), "to_pc": text()}],
+        "Respond": lambda: [parts[0], text()],
+        "Comment": lambda: [parts[0], text()],
+        "Tag": lambda: [parts[0], parts[1], dice.random() < 0.5],
+        "Decide": lambda: [parts[0], (dice.choice(["Accept", "Reject"]),)],
+    }.get(kind, lambda: parts)()
+    return (kind, *filled)
 
 
 # twins: behind which stage, and what else is done there
