@@ -185,7 +185,8 @@ def other_payload(seed, place):
     form = {"score": dice.randint(1, 5), "confidence": dice.randint(1, 5), "to_authors": text(), "to_pc": text()}
     return {"digest": text(), "title": text(), "abstract_": text(), "content": text(), "value": dice.randint(0, 40),
             "kind": (dice.choice(["Primary", "Secondary", "Pc"]),), "form": form, "text": text(),
-            "on": dice.random() < 0.5, "decision": (dice.choice(["Accept", "Reject"]),)}
+            "tag": words(f"{dice.choice(['', '~', '~~'])}t{dice.randint(10, 99)}"), "on": dice.random() < 0.5,
+            "decision": (dice.choice(["Accept", "Reject"]),)}
 
 
 def looks_at(seed, history):

@@ -88,6 +88,11 @@ def conference():
     return steps
 
 
+def for_same(tag, word):
+    """The word as a tag for whom that one is: the committee, chairs or its setter."""
+    return tag[:min(2, len(tag) - len(bytes(tag).lstrip(b"~")))] + words(word)
+
+
 def with_others(seed, place, command):
     """The command with other values of all that no rule should read, made up for its place."""
     dice = random.Random(1000 * seed + place)
@@ -104,7 +109,7 @@ def with_others(seed, place, command):
         "Review": lambda: [parts[0], {**grades, "to_authors": dice.choice([(), text()]), "to_pc": text()}],
         "Respond": lambda: [parts[0], text()],
         "Comment": lambda: [parts[0], text()],
-        "Tag": lambda: [parts[0], parts[1], dice.random() < 0.5],
+        "Tag": lambda: [parts[0], for_same(parts[1], f"t{dice.randint(10, 99)}"), dice.random() < 0.5],
         "Decide": lambda: [parts[0], (dice.choice(["Accept", "Reject"]),)],
     }.get(kind, lambda: parts)()
     return (kind, *filled)

@@ -64,7 +64,7 @@ module _ (A B : History) (same : SameTold A B) (accepted : AcceptedAlike A B) (u
   programme-also p = sym (programme A p) ∙ accepted p ∙ programme B p
 
   -- wherever it stands, where the same follows
-  told-also : (before before' later : History) (maker : ℕ) (e : Entry) → IsUnread e
+  pub told-also : (before before' later : History) (maker : ℕ) (e : Entry) → IsUnread e
       → is_told u A before later maker e ≡ is_told u B before' later maker e
   told-also before before' later maker (entries.Revised paper title abstract) is =
       λ i. (is_number u maker || author-also paper i)
@@ -90,7 +90,7 @@ module _ (A B : History) (same : SameTold A B) (accepted : AcceptedAlike A B) (u
 -- ---- one entry is taken out
 
 -- it shows nothing
-unseen-one : (u : Option ℕ) (before later : History) (e : Stamped) → IsUnread e.entry
+pub unseen-one : (u : Option ℕ) (before later : History) (e : Stamped) → IsUnread e.entry
     → IsFalse (is_told u (before ++ e ∷ later) before later e.stamp.maker e.entry)
     → sight (reader u (before ++ e ∷ later)) (record { before = before; after = later }) e ≡ []
 unseen-one u before later e unread none =
@@ -127,7 +127,7 @@ last-behind o o' [] [] (y ∷ more) some = refl
 last-behind o o' [] (x' ∷ xs') more some = last-behind o (Some x') [] xs' more some
 last-behind o o' (x ∷ xs) xs' more some = last-behind (Some x) o' xs xs' more some
 
-accepted-from : (A B : History) → SameTold A B → (p : ℕ) → decision_of p A ≡ decision_of p B
+pub accepted-from : (A B : History) → SameTold A B → (p : ℕ) → decision_of p A ≡ decision_of p B
     → is_accepted p A ≡ is_accepted p B
 accepted-from A B same p decided =
     λ i. is_accept (decided i) && not (withdrawn-also A B same p i) && papers_may_be_accepted (phase-also A B same i)

@@ -1,13 +1,17 @@
 -- A history with another payload in every place: what the other histories of a group are made of.
-use Rattle.std.proofs.Common.{ℕ, ◌≡◌, zero, suc, List, [], ◌∷◌, ◌++◌, length, refl, ap}
-use Rattle.std.specs.Prelude.{map}
+use Rattle.std.proofs.Common.{ℕ, Bool, true, false, ◌≡◌, ◌||◌, zero, suc, List, [], ◌∷◌, ◌++◌, length, refl, sym, ap}
+use Rattle.std.specs.Prelude.{map, not}
 use Rattle.cr_base.specs.declared.entry.Entry.{Entry}
 use Rattle.cr_base.specs.declared.entry.Entry.TheVariants.{Registered, Submitted, Revised, Uploaded, Bid, Assigned}
 use Rattle.cr_base.specs.declared.entry.Entry.TheVariants.{Reviewed, Commented, Tagged, Decided, Responded}
 use Rattle.cr_base.specs.Drawn.{stamped}
 use Rattle.cr_base.specs.History.{History}
-use Rattle.cr_undeduced.specs.Payload.{Payload, Known, own_if, with_other}
+use Rattle.cr_undeduced.specs.Payload.{Payload, Known, own_if, are_for_same, with_other}
 use Rattle.cr_undeduced.specs.Undeducible.{Looking, past_one, known_of, others_behind}
+
+-- the other tag, where it is for the same
+abbrev pub retold : List ℕ → List ℕ → List ℕ
+retold tag other = own_if (not (are_for_same tag other)) tag other
 
 -- the entry with that in place of its own, all of it
 abbrev pub fill : Payload → Entry → Entry
@@ -19,7 +23,7 @@ fill x (Bid paper value) = Bid paper x.value
 fill x (Assigned paper user review_kind ordinal) = Assigned paper user x.kind ordinal
 fill x (Reviewed paper ordinal version form) = Reviewed paper ordinal version x.form
 fill x (Commented paper n ordinal text) = Commented paper n ordinal x.text
-fill x (Tagged paper tag on) = Tagged paper tag x.on
+fill x (Tagged paper tag on) = Tagged paper (retold tag x.tag) x.on
 fill x (Decided paper decision) = Decided paper x.decision
 fill x (Responded paper text) = Responded paper x.text
 fill x e = e
@@ -63,22 +67,47 @@ mixed known (Reviewed paper ordinal version form) x = record x {
   };
 }
 mixed known (Commented paper n ordinal text) x = record x { text = own_if known.text text x.text }
-mixed known (Tagged paper tag on) x = record x { on = own_if known.on on x.on }
+mixed known (Tagged paper tag on) x =
+    record x { tag = own_if known.tag tag x.tag; on = own_if known.on on x.on }
 mixed known (Decided paper decision) x = record x { decision = own_if known.decision decision x.decision }
 mixed known (Responded paper text) x = record x { text = own_if known.text text x.text }
 mixed known e x = x
 
+same-either : {A : Type 0} (b : Bool) (x : A) → own_if b x x ≡ x
+same-either true x = refl
+same-either false x = refl
+
+pub retold-own : (tag : List ℕ) → retold tag tag ≡ tag
+retold-own tag = same-either (not (are_for_same tag tag)) tag
+
+-- a tag that is known, or whose other is for others, stays
+tag-mixed : (known : Bool) (tag other : List ℕ)
+    → own_if (known || not (are_for_same tag other)) tag other ≡ retold tag (own_if known tag other)
+tag-mixed true tag other = sym (retold-own tag)
+tag-mixed false tag other = refl
+
 -- so it fills the entry in as the other history has it
 pub mixed-fills : (known : Known) (x : Payload) (e : Entry) → with_other known x e ≡ fill (mixed known e x) e
 mixed-fills known x (Registered user name digest) = refl
+mixed-fills known x (Tagged paper tag on) =
+    ap (λ t. Tagged paper t (own_if known.on on x.on)) (tag-mixed known.tag tag x.tag)
 mixed-fills known x e = refl
 
--- place by place
+-- place by place; and, of the first, so that every tag stays
+abbrev pub mixed_by : (Known → Known) → List Looking → History → (ℕ → Payload) → History → ℕ → Payload
+mixed_by f looks before xs [] n = xs n
+mixed_by f looks before xs (e ∷ later) zero = mixed (f (known_of looks before e)) e.entry (xs 0)
+mixed_by f looks before xs (e ∷ later) (suc n) =
+    mixed_by f (map past_one looks) (before ++ e ∷ []) (λ n. xs (suc n)) later n
+
 abbrev pub mixed_behind : List Looking → History → (ℕ → Payload) → History → ℕ → Payload
-mixed_behind looks before xs [] n = xs n
-mixed_behind looks before xs (e ∷ later) zero = mixed (known_of looks before e) e.entry (xs 0)
-mixed_behind looks before xs (e ∷ later) (suc n) =
-    mixed_behind (map past_one looks) (before ++ e ∷ []) (λ n. xs (suc n)) later n
+mixed_behind looks before xs H = mixed_by (λ known. known) looks before xs H
+
+abbrev pub with_tags : Known → Known
+with_tags known = record known { tag = true }
+
+abbrev pub mixed_but_tags : List Looking → History → (ℕ → Payload) → History → ℕ → Payload
+mixed_but_tags looks before xs H = mixed_by with_tags looks before xs H
 
 pub others-filled : (looks : List Looking) (before : History) (xs : ℕ → Payload) (H : History)
     → others_behind looks before xs H ≡ refilled (mixed_behind looks before xs H) H

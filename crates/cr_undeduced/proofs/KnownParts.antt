@@ -1,7 +1,7 @@
 -- What the table shows somebody of an entry she was told, by the words of the bounds: so it is known, and stays.
 use Rattle.std.proofs.Common.{ℕ, Bool, true, false, ◌≡◌, List, [], ◌∷◌, refl, sym, ap, ◌∙◌, ◌||◌, ◌&&◌}
 use Rattle.std.proofs.Common.{Option, Some}
-use Rattle.std.specs.Prelude.{is_some}
+use Rattle.std.specs.Prelude.{is_some, not}
 use Rattle.std.proofs.lemmas.Bool.{true≢false}
 use Rattle.cr_base.specs.declared.entry.Entry.{Entry}
 use Rattle.cr_base.specs.declared.entry.Entry.TheVariants as entries
@@ -12,15 +12,15 @@ use Rattle.cr_policy.specs.Part as part
 use Rattle.cr_policy.specs.Part.{Part}
 use Rattle.cr_bounds.specs.ShownTo.{PartFor, is_told, digest_for, title_for, abstract_for, content_for, value_for}
 use Rattle.cr_bounds.specs.ShownTo.{review_kind_for, score_for, confidence_for, to_authors_for, to_pc_for, text_for}
-use Rattle.cr_bounds.specs.ShownTo.{switch_for, decision_for}
+use Rattle.cr_bounds.specs.ShownTo.{tag_for, switch_for, decision_for}
 use Rattle.cr_policy.specs.Sighting.{where_shown, masked, entire}
 use Rattle.cr_policy.specs.Triggers.{reader, Around, TriggerRow, applies_any, shows}
 use Rattle.cr_policy.specs.View.{rows_at}
 use Rattle.cr_bounds.proofs.BoundsParts.{IsWriters, IsWithin, seen-told, digest-one, title-one, abstract-one}
 use Rattle.cr_bounds.proofs.BoundsParts.{content-one}
 use Rattle.cr_bounds.proofs.BoundsParts.{switch-one, value-one, seat-one, score-one, confidence-one, to_authors-one}
-use Rattle.cr_bounds.proofs.BoundsParts.{to_pc-one, comment-one, decision-one}
-use Rattle.cr_undeduced.specs.Payload.{Payload, Known, own_if, with_other}
+use Rattle.cr_bounds.proofs.BoundsParts.{to_pc-one, comment-one, tag-one, decision-one}
+use Rattle.cr_undeduced.specs.Payload.{Payload, Known, own_if, are_for_same, with_other}
 
 -- ---- one part
 
@@ -49,6 +49,10 @@ there shown own known same is = ap is_some (sym same ∙ ap (λ b. where_shown b
 
 both : (a b : Bool) → a ≡ true → b ≡ true → (a && b) ≡ true
 both a b h k = (λ i. h i && k i)
+
+or-left : (a b : Bool) → a ≡ true → (a || b) ≡ true
+or-left true b h = refl
+or-left false b h = absurd (true≢false (sym h))
 
 -- ---- one entry
 
@@ -80,6 +84,7 @@ module _ (u : Option ℕ) (T : History) (at : Around) (stamp : Stamp) (more : Bo
     pub to_authors : tells to_authors_for e ≡ true → known.to_authors ≡ true
     pub to_pc : tells to_pc_for e ≡ true → known.to_pc ≡ true
     pub text : tells text_for e ≡ true → known.text ≡ true
+    pub tag : tells tag_for e ≡ true → known.tag ≡ true
     pub on : tells switch_for e ≡ true → known.on ≡ true
     pub decision : tells decision_for e ≡ true → known.decision ≡ true
 
@@ -175,6 +180,10 @@ module _ (u : Option ℕ) (T : History) (at : Around) (stamp : Stamp) (more : Bo
   entry-kept known x (entries.Tagged paper tag on) within writes knows =
       let e : Entry = entries.Tagged paper tag on in
       λ i. record (masked (shown e) false (entire stamp e)) {
+        tag =
+            keeps e part.tag tag_for (known.tag || not (are_for_same tag x.tag)) tag x.tag within
+            (λ tells. or-left known.tag (not (are_for_same tag x.tag)) (knows.tag tells))
+            (λ told. tag-one u T at stamp more e told) i;
         on =
             keeps e part.on switch_for known.on on x.on within knows.on
             (λ told. switch-one u T at stamp more e told) i;

@@ -10,6 +10,7 @@ pub mod RefilledTexts
 pub mod RefilledViews
 pub mod KnownParts
 pub mod LooksAccepted
+pub mod LooksTags
 pub mod LooksLaws
 pub mod UndeducibleLaws
 pub mod BesidesFacts

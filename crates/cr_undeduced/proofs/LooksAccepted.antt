@@ -16,7 +16,7 @@ use Rattle.cr_bounds.proofs.BoundsWords.{none_in-decided, phase-words}
 use Rattle.cr_undeduced.specs.Payload.{Payload, own_if}
 use Rattle.cr_undeduced.specs.Undeducible.{Looking, past_one, was_final, any_final, known_of}
 use Rattle.cr_undeduced.proofs.Among.{Among, among-map}
-use Rattle.cr_undeduced.proofs.Fill.{fill, refilled, mixed, mixed_behind}
+use Rattle.cr_undeduced.proofs.Fill.{fill, refilled, mixed, with_tags, mixed_but_tags}
 use Rattle.cr_undeduced.proofs.RefilledFacts.{phase-refilled, withdrawn-refilled, decisions-refilled, nothing-many}
 
 module _ (u : Option ℕ) (T : History) (p : ℕ) (final : is_past_discussion (phase_of T) ≡ true) where
@@ -33,7 +33,7 @@ module _ (u : Option ℕ) (T : History) (p : ℕ) (final : is_past_discussion (p
 
   last-kept : (k : ℕ) (looks : List Looking) (xs : ℕ → Payload) (before G : History)
       → Among (with_ahead (take k G)) looks → (o : Option Decision)
-      → last_from o (decisions (refilled (mixed_behind looks before xs G) (take k G)))
+      → last_from o (decisions (refilled (mixed_but_tags looks before xs G) (take k G)))
       ≡ last_from o (decisions (take k G))
   last-kept zero looks xs before [] among o = refl
   last-kept zero looks xs before (e ∷ G) among o = refl
@@ -47,7 +47,7 @@ module _ (u : Option ℕ) (T : History) (p : ℕ) (final : is_past_discussion (p
       later = take k G
 
       later' : History
-      later' = refilled (mixed_behind (map past_one looks) (before ++ e ∷ []) (λ n. xs (suc n)) G) later
+      later' = refilled (mixed_but_tags (map past_one looks) (before ++ e ∷ []) (λ n. xs (suc n)) G) later
 
       -- a decision on the paper: the last stays, and of others there is a later one
       on-it : ((o : Option Decision) → last_from o (decisions later') ≡ last_from o (decisions later))
@@ -80,7 +80,8 @@ module _ (u : Option ℕ) (T : History) (p : ℕ) (final : is_past_discussion (p
       by : ((o : Option Decision) → last_from o (decisions later') ≡ last_from o (decisions later)) → (entry : Entry)
           → (was_final entry T (e ∷ later) ≡ true → any_final looks entry ≡ true)
           → last_from o
-          (decision_told p (fill (mixed (known_of looks before (record e { entry = entry })) entry (xs 0)) entry)
+          (decision_told p
+          (fill (mixed (with_tags (known_of looks before (record e { entry = entry }))) entry (xs 0)) entry)
           ++ decisions later')
           ≡ last_from o (decision_told p entry ++ decisions later)
       by rest (entries.Decided paper decision) kept =
@@ -91,14 +92,14 @@ module _ (u : Option ℕ) (T : History) (p : ℕ) (final : is_past_discussion (p
 
 pub accepted-then : (u : Option ℕ) (T : History) (k : ℕ) (looks : List Looking) (xs : ℕ → Payload) (H : History)
     → Among (record { who = u; stood = T; ahead = take k H }) looks → T ≡ take k H → (p : ℕ)
-    → is_accepted p (take k H) ≡ is_accepted p (refilled (mixed_behind looks [] xs H) (take k H))
+    → is_accepted p (take k H) ≡ is_accepted p (refilled (mixed_but_tags looks [] xs H) (take k H))
 accepted-then u T k looks xs H among whole p =
     by (papers_may_be_accepted (phase_of (take k H))) refl
     ∙ (λ i. is_accept (decision_of p T') && not (sym (withdrawn-refilled ys (take k H) p) i)
     && papers_may_be_accepted (sym (phase-refilled ys (take k H)) i))
   where
     ys : ℕ → Payload
-    ys = mixed_behind looks [] xs H
+    ys = mixed_but_tags looks [] xs H
 
     T' : History
     T' = refilled ys (take k H)

@@ -4,6 +4,7 @@ use Rattle.std.proofs.Common.{Option, append_assoc, length, take_all, arith}
 use Rattle.std.specs.Prelude.{map, take}
 use Rattle.std.specs.List.{AllByRecursion}
 use Rattle.cr_base.specs.declared.entry.Entry.{Entry}
+use Rattle.cr_base.specs.declared.entry.Entry.TheVariants as entries
 use Rattle.cr_base.specs.declared.entry.Stamped.{Stamped}
 use Rattle.cr_base.specs.Drawn.{stamped}
 use Rattle.cr_base.specs.History.{History}
@@ -17,10 +18,12 @@ use Rattle.cr_bounds.proofs.BoundsWalk.{within-one, Writes, writers-all}
 use Rattle.cr_undeduced.specs.Payload.{Payload}
 use Rattle.cr_undeduced.specs.Undeducible.{Look, Looking, looking_at, past_one, was_told, any_told, known_of}
 use Rattle.cr_undeduced.specs.Undeducible.{any_final, LooksAlike, GroupAlike, all_at_end, otherwise, seen_at}
-use Rattle.cr_undeduced.proofs.Fill.{fill, refilled, mixed-fills, mixed_behind, others-filled}
+use Rattle.cr_undeduced.proofs.Fill.{fill, refilled, mixed, retold-own, mixed-fills, with_tags, mixed_but_tags}
+use Rattle.cr_undeduced.proofs.Fill.{mixed_behind, others-filled}
 use Rattle.cr_undeduced.proofs.KnownParts.{KnowsAll, entry-kept}
 use Rattle.cr_undeduced.proofs.LooksAccepted.{accepted-then}
-use Rattle.cr_undeduced.proofs.RefilledViews.{refilled-unseen}
+use Rattle.cr_undeduced.proofs.LooksTags.{tags-unseen}
+use Rattle.cr_undeduced.proofs.RefilledViews.{KeepsTag, KeepTags, refilled-unseen}
 use Rattle.cr_undeduced.proofs.Among.{Among, among-contained, among-map}
 
 module _ (u : Option ℕ) (T : History) where
@@ -38,9 +41,11 @@ module _ (u : Option ℕ) (T : History) where
   or-right true b h = refl
   or-right false b h = h
 
+  -- and so it is of what stays beside the tags
   knows-all : (looks : List Looking) (before : History) (e : Stamped) (later : History)
       → Among (with_ahead (e ∷ later)) looks
-      → KnowsAll u T (record { before = before; after = later }) e.stamp e.more (known_of looks before e) e.entry
+      → KnowsAll u T (record { before = before; after = later }) e.stamp e.more (with_tags (known_of looks before e))
+      e.entry
   knows-all looks before e later among = record {
     digest = known-told digest_for looks before e later among;
     title = known-told title_for looks before e later among;
@@ -53,6 +58,7 @@ module _ (u : Option ℕ) (T : History) where
     to_authors = known-told to_authors_for looks before e later among;
     to_pc = known-told to_pc_for looks before e later among;
     text = known-told text_for looks before e later among;
+    tag = λ told. refl;
     on = known-told switch_for looks before e later among;
     decision = λ told.
         or-right (any_final looks e.entry) _ (known-told decision_for looks before e later among told);
@@ -62,16 +68,16 @@ module _ (u : Option ℕ) (T : History) where
   hidden-then : (k : ℕ) (looks : List Looking) (xs : ℕ → Payload) (before G : History)
       → Among (with_ahead (take k G)) looks → before ++ take k G ≡ T → AllByRecursion (Writes u T) (take k G)
       → PlaceByPlace (λ at e other. shown_of (reader u T) at e e ≡ shown_of (reader u T) at e other) before (take k G)
-      (refilled (mixed_behind looks before xs G) (take k G))
+      (refilled (mixed_but_tags looks before xs G) (take k G))
   hidden-then zero looks xs before [] among whole writes = tt
   hidden-then zero looks xs before (e ∷ G) among whole writes = tt
   hidden-then (suc k) looks xs before [] among whole writes = tt
   hidden-then (suc k) looks xs before (e ∷ G) among whole writes = (
-    entry-kept u T at e.stamp e.more (known_of looks before e) (xs 0) e.entry
+    entry-kept u T at e.stamp e.more (with_tags (known_of looks before e)) (xs 0) e.entry
         (within-one u T before e.stamp e.more e.entry (take k G) whole) writes.0
         (knows-all looks before e (take k G) among)
         ∙ ap (λ (entry : Entry). shown_of (reader u T) at e (stamped e.stamp e.more entry))
-        (mixed-fills (known_of looks before e) (xs 0) e.entry),
+        (mixed-fills (with_tags (known_of looks before e)) (xs 0) e.entry),
     hidden-then k (map past_one looks) (λ n. xs (suc n)) (before ++ e ∷ []) G
         (among-map past_one (with_ahead (e ∷ take k G)) looks among)
         (append_assoc before (e ∷ []) (take k G) ∙ whole) writes.1,
@@ -79,6 +85,19 @@ module _ (u : Option ℕ) (T : History) where
     where
       at : Around
       at = record { before = before; after = take k G }
+
+-- in which every tag is its own
+tags-kept : (k : ℕ) (looks : List Looking) (xs : ℕ → Payload) (before G : History)
+    → KeepTags (mixed_but_tags looks before xs G) (take k G)
+tags-kept zero looks xs before [] = tt
+tags-kept zero looks xs before (e ∷ G) = tt
+tags-kept (suc k) looks xs before [] = tt
+tags-kept (suc k) looks xs before (e ∷ G) =
+    (by e.entry, tags-kept k (map past_one looks) (λ n. xs (suc n)) (before ++ e ∷ []) G)
+  where
+    by : (entry : Entry) → KeepsTag (mixed (with_tags (known_of looks before e)) entry (xs 0)) entry
+    by (entries.Tagged paper tag on) = retold-own tag
+    by entry = tt
 
 refilled-take : (k : ℕ) (xs : ℕ → Payload) (H : History) → take k (refilled xs H) ≡ refilled xs (take k H)
 refilled-take zero xs [] = refl
@@ -98,9 +117,10 @@ module _ (looks : List Look) (xs : ℕ → Payload) (H : History) where
   among_alike look among =
       let stood : History = take look.upto H in
       let there : Among (looking_at H look) all = among-map (looking_at H) look looks among in
-      refilled-unseen ys stood look.who
+      refilled-unseen (mixed_but_tags all [] xs H) stood look.who (tags-kept look.upto all xs [] H)
       (hidden-then look.who stood look.upto all xs [] H there refl (writers-all look.who stood))
       (accepted-then look.who stood look.upto all xs H there refl)
+      ∙ tags-unseen look.who stood look.upto all xs H there refl
       ∙ ap (view look.who) (sym (refilled-take look.upto ys H) ∙ ap (take look.upto) (sym (others-filled all [] xs H)))
 
   whole : take (length H) (otherwise looks xs H) ≡ otherwise looks xs H

@@ -28,8 +28,8 @@ use Rattle.cr_base.specs.Sources.{Facts, Shown, user_among, facts_of_tables}
 use Rattle.cr_base.specs.Tables.{tables_of}
 use Rattle.cr_base.specs.TagTexts.{is_tag}
 use Rattle.cr_policy.specs.Judge.{judge, view_basis, own_sightings, judge_bulk}
-use Rattle.cr_undeduced.specs.Payload.{Payload}
-use Rattle.cr_undeduced.proofs.Fill.{fill, refilled, behind, refilled-append}
+use Rattle.cr_undeduced.specs.Payload.{Payload, IsBoundedPayload}
+use Rattle.cr_undeduced.proofs.Fill.{retold, fill, refilled, behind, refilled-append}
 use Rattle.cr_policy.specs.View.{View, view}
 use Rattle.cr_policy.specs.ViewFacts.{facts_in_view, shown_in_view}
 use Rattle.cr_policy.proofs.BulkLaws.{row_seen, seen, IsReady, RowCalls, row-calls, RowAdds, row-adds, next, next-ready}
@@ -37,7 +37,7 @@ use Rattle.cr_policy.proofs.BulkLaws.{next-seen, AreAccepted, rows-accepted, no_
 use Rattle.cr_policy.proofs.StandingLaws.{accounts-seen, standing_from_view}
 use Rattle.cr_undeduced.proofs.RefilledFacts.{accounts-refilled, standing-refilled}
 use Rattle.cr_undeduced.proofs.RefilledJudged.{fill_command, HasRoom, Filled}
-use Rattle.cr_undeduced.proofs.RefilledSteps.{call-roomy}
+use Rattle.cr_undeduced.proofs.RefilledSteps.{call-roomy, tag-bounded, behind-bounded}
 
 -- ---- what is filled into a row
 
@@ -52,7 +52,7 @@ tag_word false = codes "cleartag"
 
 abbrev fill_by : Payload → Option Action → BulkRow → BulkRow
 fill_by x (Some (assigns kind)) row = record row { action = kind_word x.kind }
-fill_by x (Some (turns_tag on)) row = record row { action = tag_word x.on }
+fill_by x (Some (turns_tag on)) row = record row { action = tag_word x.on; tag = retold row.tag x.tag }
 fill_by x action row = row
 
 abbrev pub fill_row : Payload → BulkRow → BulkRow
@@ -82,10 +82,10 @@ fill_given x r given one other command is filled told =
     let e : one ≡ command = cc in
     is ∙ ap (λ (c : Command). Ok c) (sym filled ∙ ap (fill_command x) e)
 
-row-filled : (x : Payload) (row : BulkRow) (command : Command) → row_command row ≡ Ok command
+row-filled : (x : Payload) (row : BulkRow) (command : Command) → is_tag x.tag ≡ true → row_command row ≡ Ok command
     → row_command (fill_row x row) ≡ Ok (fill_command x command)
 unfolding row_command
-row-filled x row command is = by (action_of row.action) refl is
+row-filled x row command bounded is = by (action_of row.action) refl is
   where
     by : (action : Option Action) → action_of row.action ≡ action → command_told_by action row ≡ Ok command
         → command_told_by (action_of (fill_by x action row).action) (fill_by x action row) ≡ Ok (fill_command x command)
@@ -101,17 +101,25 @@ row-filled x row command is = by (action_of row.action) refl is
         fill_given x _ (row_command row) _ _ command
         (ap (λ (a : Option Action). command_told_by a row) read) refl is
     by (Some (turns_tag on)) read is =
-        ap (λ (a : Option Action). command_told_by a (record row { action = tag_word x.on })) (tag-told x.on)
-        ∙ tagged (is_tag row.tag) is
+        ap
+        (λ (a : Option Action). command_told_by a
+        (record row { action = tag_word x.on; tag = retold row.tag x.tag })) (tag-told x.on)
+        ∙ tagged (is_tag row.tag) refl is
       where
-        tagged : (b : Bool)
+        told_if : Bool → Result Command Rule
+        told_if b = cond b (Ok (commands.Tag (parse_paper row.paper) (retold row.tag x.tag) x.on)) (Err rules.BadTag)
+
+        tagged : (b : Bool) → is_tag row.tag ≡ b
             → ◌≡◌ {A = Result Command Rule} (cond b (Ok (commands.Tag (parse_paper row.paper) row.tag on))
             (Err rules.BadTag)) (Ok command)
-            → ◌≡◌ {A = Result Command Rule} (cond b (Ok (commands.Tag (parse_paper row.paper) row.tag x.on))
-            (Err rules.BadTag)) (Ok (fill_command x command))
-        tagged true is = let e : commands.Tag (parse_paper row.paper) row.tag on ≡ command = cc in
-            ap (λ (c : Command). Ok (fill_command x c)) e
-        tagged false is = cc
+            → ◌≡◌ {A = Result Command Rule} (cond (is_tag (retold row.tag x.tag))
+            (Ok (commands.Tag (parse_paper row.paper) (retold row.tag x.tag) x.on)) (Err rules.BadTag))
+            (Ok (fill_command x command))
+        tagged true is_one is =
+            let e : commands.Tag (parse_paper row.paper) row.tag on ≡ command = cc in
+            ap (λ (b : Bool). told_if b) (tag-bounded row.tag x.tag is_one bounded)
+            ∙ ap (λ (c : Command). Ok (fill_command x c)) e
+        tagged false is_one is = cc
 
 -- ---- one row
 
@@ -166,12 +174,14 @@ module _ (stamp : Stamp) where
     is : row_seen stamp (refilled xs H) (fill_row (behind (length H) xs 0) row) ≡ Ok again
     group : again.group ≡ refilled (behind (length H) xs) drawn.group
 
-  row-refilled : (xs : ℕ → Payload) (H : History) (row : BulkRow) (drawn : Drawn) → IsReady stamp H
-      → IsReady stamp (refilled xs H) → row_seen stamp H row ≡ Ok drawn → RowFilled xs H row drawn
-  row-refilled xs H row drawn ready ready' accepted =
+  row-refilled : (xs : ℕ → Payload) → ((n : ℕ) → IsBoundedPayload (xs n)) → (H : History) (row : BulkRow)
+      (drawn : Drawn) → IsReady stamp H → IsReady stamp (refilled xs H) → row_seen stamp H row ≡ Ok drawn
+      → RowFilled xs H row drawn
+  row-refilled xs bounded H row drawn ready ready' accepted =
       record {
         again = filled.drawn;
-        is = ap (row_told_judged facts' shown' stamp) (row-filled x row calls.command calls.is)
+        is = ap (row_told_judged facts' shown' stamp)
+            (row-filled x row calls.command (behind-bounded (length H) xs bounded 0).tag calls.is)
             ∙ ap
             (λ (b : Bool). cond b (Err rules.BulkSelf) (judge_by facts' shown' stamp (fill_command x calls.command)))
             (same-own x facts facts' user calls.command same ∙ calls.other)
@@ -206,20 +216,21 @@ module _ (stamp : Stamp) where
 
   -- ---- all rows
 
-  pub rows-refilled : (rows : List BulkRow) (n : ℕ) (xs : ℕ → Payload) (H : History) (es : List Entry)
+  pub rows-refilled : (rows : List BulkRow) (n : ℕ) (xs : ℕ → Payload) → ((n : ℕ) → IsBoundedPayload (xs n))
+      → (H : History) (es : List Entry)
       → IsReady stamp H → IsReady stamp (refilled xs H) → seen stamp H n rows ≡ Ok es
       → seen stamp (refilled xs H) n (fill_rows (behind (length H) xs) rows)
       ≡ Ok (filled_entries (behind (length H) xs) es)
-  rows-refilled [] n xs H es ready ready' accepted =
+  rows-refilled [] n xs bounded H es ready ready' accepted =
       ap (λ (es : List Entry). Ok (filled_entries (behind (length H) xs) es)) (no_rows stamp es accepted)
-  rows-refilled (row ∷ rows) n xs H es ready ready' accepted =
+  rows-refilled (row ∷ rows) n xs bounded H es ready ready' accepted =
       ap (λ (r : Result Drawn Rule). and_behind n r goes) filled.is
       ∙ ap (and_rows (entries_of again.group))
       (ap (λ (V : View). rows_judged (view_basis user) stamp V (n + 1) (fill_rows zs rows))
       (next-seen stamp (refilled xs H) again ready' first' true)
       ∙ ap (λ (G : History). seen stamp G (n + 1) (fill_rows zs rows)) same_next
       ∙ ap (λ (zs : ℕ → Payload). seen stamp (refilled xs next_one) (n + 1) (fill_rows zs rows)) (sym zs_next)
-      ∙ rows-refilled rows (n + 1) xs next_one all.more (next-ready stamp H all.drawn ready all.first true)
+      ∙ rows-refilled rows (n + 1) xs bounded next_one all.more (next-ready stamp H all.drawn ready all.first true)
       (subst (IsReady stamp) same_next (next-ready stamp (refilled xs H) again ready' first' true)) (all.rest true))
       ∙ (λ i. Ok (entries_of (group i) ++ filled_entries (zs_next i) all.more))
       ∙ ap (λ (es : List Entry). Ok (filled_entries ys es)) (sym all.all)
@@ -234,7 +245,7 @@ module _ (stamp : Stamp) where
       all = rows-accepted stamp H n row rows es ready accepted
 
       filled : RowFilled xs H row all.drawn
-      filled = row-refilled xs H row all.drawn ready ready' all.judged
+      filled = row-refilled xs bounded H row all.drawn ready ready' all.judged
 
       again : Drawn
       again = filled.again
@@ -273,11 +284,11 @@ module _ (stamp : Stamp) where
     pub is : r ≡ Ok drawn
     pub group : drawn.group ≡ refilled xs given.group
 
-  pub bulk-refilled : (xs : ℕ → Payload) (H : History) (rows : List BulkRow) (drawn : Drawn) → IsReady stamp H
-      → IsReady stamp (refilled xs H) → judge_bulk (view (Some user) H) (bulk rows) ≡ Ok drawn
+  pub bulk-refilled : (xs : ℕ → Payload) → ((n : ℕ) → IsBoundedPayload (xs n)) → (H : History) (rows : List BulkRow)
+      (drawn : Drawn) → IsReady stamp H → IsReady stamp (refilled xs H) → judge_bulk (view (Some user) H) (bulk rows) ≡ Ok drawn
       → BulkFilled (judge_bulk (view (Some user) (refilled xs H)) (bulk (fill_rows (behind (length H) xs) rows)))
       (behind (length H) xs) drawn
-  bulk-refilled xs H rows drawn ready ready' accepted =
+  bulk-refilled xs bounded H rows drawn ready ready' accepted =
       record {
         drawn = bulk_drawn stamp (length again) (filled_entries ys draws.entries);
         is = ap (λ (st : Standing). bulk_behind (view_basis user) V' (bulk again) (judged (bulk_checks st) tt)) same
@@ -314,4 +325,4 @@ module _ (stamp : Stamp) where
       by (Err rule) is = cc
       by (Ok done) is =
           ap (bulk_of_rows stamp (length again))
-          (rows-refilled rows 1 xs H draws.entries ready ready' draws.accepted)
+          (rows-refilled rows 1 xs bounded H draws.entries ready ready' draws.accepted)

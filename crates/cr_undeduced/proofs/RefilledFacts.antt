@@ -160,7 +160,7 @@ module _ (xs : ℕ → Payload) (H : History) where
   pub invited-refilled : (u : Option ℕ) (p : ℕ) → is_invited u p H' ≡ is_invited u p H
   invited-refilled u p = ap (last_or false) (told-refilled (λ m e. invite_told u p e) (invite-untouched u p) xs H)
 
-  conflict-refilled : (u : Option ℕ) (p : ℕ) → is_conflict_on u p H' ≡ is_conflict_on u p H
+  pub conflict-refilled : (u : Option ℕ) (p : ℕ) → is_conflict_on u p H' ≡ is_conflict_on u p H
   conflict-refilled u p =
       ap (last_or false) (told-refilled (λ m e. conflict_told u p e) (conflict-untouched u p) xs H)
 

@@ -2,9 +2,10 @@
 -- the same but for these.
 use Rattle.std.proofs.Common.{ℕ, Bool, true, false, cond, ◌≡◌, ◌≤◌, ◌+◌, suc, List, [], ◌∷◌, length, refl, sym}
 use Rattle.std.proofs.Common.{ap, subst, ◌∙◌, arith, Option, Some, None, Result, Ok, eqb}
-use Rattle.std.specs.Prelude.{is_none, is_some, unwrap_or, map, nat_lt}
+use Rattle.std.specs.Prelude.{not, is_none, is_some, unwrap_or, map, nat_lt}
 use Rattle.std.specs.List.{flat_map, list_any}
 use Rattle.std.specs.Option.{option_map}
+use Rattle.std.proofs.lemmas.Bool.{and_parts, true≢false}
 use Rattle.std.proofs.lemmas.Bool.Decides.{nat_tests}
 use Rattle.cr_base.specs.declared.command.Command.{Command}
 use Rattle.cr_base.specs.declared.command.Command.TheVariants.{Register, SetPhase, Submit, Revise, Upload, Withdraw}
@@ -33,8 +34,10 @@ use Rattle.cr_base.specs.Sources.{Facts, Shown, number_in, user_among, users_amo
 use Rattle.cr_base.specs.Sources.{role_among, paper_named, target_named, is_late}
 use Rattle.cr_base.specs.TagTexts.{is_for_chairs}
 use Rattle.cr_base.proofs.CheckLaws.{NoneBroken, judged-Ok, judged-none}
-use Rattle.cr_undeduced.specs.Payload.{Payload}
-use Rattle.cr_undeduced.proofs.Fill.{refilled}
+use Rattle.cr_bounds.specs.ShownTo.{is_committees, is_chairs}
+use Rattle.cr_bounds.proofs.BoundsWords.{for-chairs}
+use Rattle.cr_undeduced.specs.Payload.{Payload, own_if, agree, are_for_same}
+use Rattle.cr_undeduced.proofs.Fill.{retold, refilled}
 
 -- ---- what is filled into a command
 
@@ -48,7 +51,7 @@ fill_command x (Assign paper name kind) = Assign paper name x.kind
 fill_command x (Review paper form) = Review paper x.form
 fill_command x (Respond paper text) = Respond paper x.text
 fill_command x (Comment paper text) = Comment paper x.text
-fill_command x (Tag paper tag on) = Tag paper tag x.on
+fill_command x (Tag paper tag on) = Tag paper (retold tag x.tag) x.on
 fill_command x (Decide paper decision) = Decide paper x.decision
 fill_command x command = command
 
@@ -95,6 +98,38 @@ fills xs checks checks' draws draws' given accepted path groups =
       is = judged-none checks' draws' (subst NoneBroken path k.0);
       group = groups ∙ ap (λ (d : Drawn). refilled xs d.group) k.1;
     }
+
+-- ---- tags
+
+agree-is : (a b : Bool) → agree a b ≡ true → a ≡ b
+agree-is true true h = refl
+agree-is true false h = absurd (true≢false (sym h))
+agree-is false true h = absurd (true≢false (sym h))
+agree-is false false h = refl
+
+-- the other tag is for the same
+pub same-chairs : (tag other : List ℕ) → are_for_same tag other ≡ true → is_chairs tag ≡ is_chairs other
+same-chairs tag other same =
+    agree-is (is_chairs tag) (is_chairs other)
+    (and_parts (agree (is_committees tag) (is_committees other)) (agree (is_chairs tag) (is_chairs other)) same).1
+
+pub same-committees : (tag other : List ℕ) → are_for_same tag other ≡ true → is_committees tag ≡ is_committees other
+same-committees tag other same =
+    agree-is (is_committees tag) (is_committees other)
+    (and_parts (agree (is_committees tag) (is_committees other)) (agree (is_chairs tag) (is_chairs other)) same).0
+
+-- what is so of tags that are for the same is so of the one that stands in its place
+pub retold-same : (f : List ℕ → Bool) → ((tag other : List ℕ) → are_for_same tag other ≡ true → f tag ≡ f other)
+    → (tag other : List ℕ) → f tag ≡ f (retold tag other)
+retold-same f each tag other = by (are_for_same tag other) refl
+  where
+    by : (b : Bool) → are_for_same tag other ≡ b → f tag ≡ f (own_if (not b) tag other)
+    by true same = each tag other same
+    by false same = refl
+
+chairs-retold : (tag other : List ℕ) → is_for_chairs tag ≡ is_for_chairs (retold tag other)
+chairs-retold tag other =
+    for-chairs tag ∙ retold-same is_chairs same-chairs tag other ∙ sym (for-chairs (retold tag other))
 
 -- ---- groups of several entries
 
@@ -333,9 +368,9 @@ module _ (facts facts' : Facts) (shown shown' : Shown) (same : SameRead facts fa
       (is_late (F i) stamp.at))
       (λ i. (comment_drawn stamp p (sym (same.comments p) i + 1) ((sym F i).own_ordinal p) (xs 0).text).group)
   judged-filled stamp xs (Tag paper tag on) given room accepted =
-      fills xs _ _ (tag_drawn stamp (unwrap_or paper 0) tag on) (tag_drawn stamp (unwrap_or paper 0) tag (xs 0).on)
-      given accepted
-      (λ i. tag_checks ((F i).standing paper) (paper_named (F i) (S i) paper) (is_for_chairs tag)) refl
+      fills xs _ _ (tag_drawn stamp (unwrap_or paper 0) tag on)
+      (tag_drawn stamp (unwrap_or paper 0) (retold tag (xs 0).tag) (xs 0).on) given accepted
+      (λ i. tag_checks ((F i).standing paper) (paper_named (F i) (S i) paper) (chairs-retold tag (xs 0).tag i)) refl
   judged-filled stamp xs (Decide paper decision) given room accepted =
       fills xs _ _ (decision_drawn stamp (unwrap_or paper 0) decision)
       (decision_drawn stamp (unwrap_or paper 0) (xs 0).decision) given accepted

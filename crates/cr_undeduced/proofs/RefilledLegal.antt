@@ -1,5 +1,5 @@
 -- A legal history that is filled in anew is legal, where there is room for the contents that are filled in.
-use Rattle.std.proofs.Common.{ℕ, ◌≡◌, ◌≤◌, ◌+◌, suc, zero, List, [], ◌∷◌, ◌++◌, length, refl, sym, ap}
+use Rattle.std.proofs.Common.{ℕ, ◌≡◌, ◌≤◌, ◌+◌, List, [], ◌∷◌, ◌++◌, length, refl, sym, ap}
 use Rattle.std.proofs.Common.{subst, ◌∙◌, arith, append_assoc, append-nil, Some, Result, Ok, Err}
 use Rattle.cr_base.specs.declared.bulk.Broken.{Broken}
 use Rattle.cr_base.specs.declared.command.Call.{Call}
@@ -22,7 +22,7 @@ use Rattle.cr_undeduced.specs.Undeducible.{IsWithinQuota}
 use Rattle.cr_undeduced.proofs.Fill.{refilled, behind, refilled-append}
 use Rattle.cr_undeduced.proofs.RefilledJudged.{HasRoom}
 use Rattle.cr_undeduced.proofs.RefilledSteps.{call_filled, call-roomy, allowed-refilled, new_key-refilled}
-use Rattle.cr_undeduced.proofs.RefilledSteps.{is_registered-refilled}
+use Rattle.cr_undeduced.proofs.RefilledSteps.{behind-bounded, is_registered-refilled}
 use Rattle.cr_undeduced.proofs.RefilledRoom.{bytes-append, none_longer-before, room, room-shorter}
 use Rattle.cr_undeduced.proofs.RefilledBulks.{fill_rows, length-fill_rows, bulk-refilled}
 
@@ -44,11 +44,6 @@ leads-grow from to (move ∷ moves) leads =
     (first.0 ++ rest.0, rest.1 ∙ ap (λ (H : History). H ++ rest.0) first.1 ∙ append_assoc from first.0 rest.0)
 
 -- ---- legal
-
-behind-bounded : (k : ℕ) (xs : ℕ → Payload) → ((n : ℕ) → IsBoundedPayload (xs n)) → (n : ℕ)
-    → IsBoundedPayload (behind k xs n)
-behind-bounded zero xs all n = all n
-behind-bounded (suc k) xs all n = behind-bounded k (λ n. xs (suc n)) (λ n. all (suc n)) n
 
 -- what makes room for each upload, and is so of each history that stood before
 pub record MakesRoom (xs : ℕ → Payload) (Fits : History → Type 0) : Type 0 where
@@ -87,7 +82,7 @@ module _ (xs : ℕ → Payload) (bounded : (n : ℕ) → IsBoundedPayload (xs n)
         registered = is_registered-refilled xs H bulk.stamp.maker allowed.given.caller;
         bounds = given-bounded H bulk allowed.given;
       } in
-      let filled = bulk-refilled bulk.stamp xs H bulk.rows drawn ready ready' is in
+      let filled = bulk-refilled bulk.stamp xs bounded H bulk.rows drawn ready ready' is in
       let again : BulkCall =
       record { stamp = bulk.stamp; rows = fill_rows (behind (length H) xs) bulk.rows } in
       subst (λ (G : History). Legal G)

@@ -1,5 +1,5 @@
 -- On a history that is filled in anew, the commands and the rows that were accepted are accepted, filled in too.
-use Rattle.std.proofs.Common.{ℕ, Bool, true, false, cond, ◌≡◌, suc, List, [], ◌∷◌, length, refl}
+use Rattle.std.proofs.Common.{ℕ, Bool, zero, true, false, cond, ◌≡◌, suc, List, [], ◌∷◌, length, refl}
 use Rattle.std.proofs.Common.{sym, ap, subst, ◌∙◌, Option, Some, None, Ok}
 use Rattle.std.specs.Prelude.{is_some, not, ◌==◌, ◌&&◌}
 use Rattle.std.specs.List.{list_any}
@@ -18,14 +18,15 @@ use Rattle.cr_base.specs.Logins.{command_wants_login}
 use Rattle.cr_base.specs.Pairs.{users_tied_to}
 use Rattle.cr_base.specs.Reviews.{forms_in, written_told}
 use Rattle.cr_base.specs.Sources.{facts_of_tables, shown_in_tables}
+use Rattle.cr_base.specs.TagTexts.{is_tag}
 use Rattle.cr_base.specs.Tables.{Tables, no_tables, tables_of}
 use Rattle.cr_history.specs.Invariants.{IsRegistered, Invariants}
 use Rattle.cr_history.specs.Laws.{AreTold}
 use Rattle.cr_history.proofs.FormAgreement.{forms_tell}
 use Rattle.cr_policy.specs.Judge.{judge}
 use Rattle.cr_policy.specs.Legal.{CallsAs, IsNewKey, IsAllowed}
-use Rattle.cr_undeduced.specs.Payload.{Payload, IsBoundedPayload}
-use Rattle.cr_undeduced.proofs.Fill.{fill, refilled, behind}
+use Rattle.cr_undeduced.specs.Payload.{Payload, IsBoundedPayload, own_if, are_for_same}
+use Rattle.cr_undeduced.proofs.Fill.{retold, fill, refilled, behind}
 use Rattle.cr_policy.specs.View.{view}
 use Rattle.cr_policy.proofs.AcceptedLaws.{Kept-told}
 use Rattle.cr_policy.proofs.JudgeAgreement.{judge-tables}
@@ -131,9 +132,23 @@ tags-login false paper tag = refl
 
 same_login : (x : Payload) (command : Command)
     → command_wants_login (fill_command x command) ≡ command_wants_login command
-same_login x (commands.Tag paper tag on) = tags-login x.on paper tag ∙ sym (tags-login on paper tag)
+same_login x (commands.Tag paper tag on) =
+    tags-login x.on paper (retold tag x.tag) ∙ sym (tags-login on paper tag)
 same_login x (commands.Register name digest) = refl
 same_login x command = refl
+
+-- behind so many places too
+pub behind-bounded : (k : ℕ) (xs : ℕ → Payload) → ((n : ℕ) → IsBoundedPayload (xs n)) → (n : ℕ)
+    → IsBoundedPayload (behind k xs n)
+behind-bounded zero xs all n = all n
+behind-bounded (suc k) xs all n = behind-bounded k (λ n. xs (suc n)) (λ n. all (suc n)) n
+
+pub tag-bounded : (tag other : List ℕ) → is_tag tag ≡ true → is_tag other ≡ true → is_tag (retold tag other) ≡ true
+tag-bounded tag other is is' = by (not (are_for_same tag other))
+  where
+    by : (b : Bool) → is_tag (own_if b tag other) ≡ true
+    by true = is
+    by false = is'
 
 bounded-filled : (x : Payload) (command : Command) → IsBoundedPayload x → IsBoundedCommand command
     → IsBoundedCommand (fill_command x command)
@@ -145,6 +160,7 @@ bounded-filled x (commands.Bid paper value) bounded is = bounded.value
 bounded-filled x (commands.Review paper form) bounded is = bounded.form
 bounded-filled x (commands.Respond paper text) bounded is = bounded.text
 bounded-filled x (commands.Comment paper text) bounded is = bounded.text
+bounded-filled x (commands.Tag paper tag on) bounded is = tag-bounded tag x.tag is bounded.tag
 bounded-filled x command bounded is = is
 
 unused-refilled : (user number : ℕ) (xs : ℕ → Payload) (H : History) → kept_under user number H ≡ []

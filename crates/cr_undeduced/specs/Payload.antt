@@ -1,5 +1,5 @@
 -- Payload: what an entry may tell that no rule reads, and a history in which some of it is otherwise.
-use Rattle.std.specs.Prelude.{ℕ, Bool, ◌≡◌, ◌≤◌, suc, List, [], ◌∷◌, length, if◌then◌else◌}
+use Rattle.std.specs.Prelude.{ℕ, Bool, ◌≡◌, ◌≤◌, ◌||◌, ◌&&◌, not, suc, List, [], ◌∷◌, length, IsTrue, if◌then◌else◌}
 use Rattle.cr_base.specs.declared.entry.Entry.{Entry}
 use Rattle.cr_base.specs.declared.entry.Entry.TheVariants.{Registered, Submitted, Revised, Uploaded, Bid, Assigned}
 use Rattle.cr_base.specs.declared.entry.Entry.TheVariants.{Reviewed, Commented, Tagged, Decided, Responded}
@@ -8,11 +8,13 @@ use Rattle.cr_base.specs.declared.words.Decision.{Decision}
 use Rattle.cr_base.specs.declared.words.Kind.{Kind}
 use Rattle.cr_base.specs.Bounds.{IsForm}
 use Rattle.cr_base.specs.History.{History}
+use Rattle.cr_base.specs.TagTexts.{is_tag}
 use Rattle.cr_base.specs.Texts.{IsTitle, IsAbstract, IsContent, IsCommentText}
+use Rattle.cr_bounds.specs.ShownTo.{is_committees, is_chairs}
 
 -- one of each, of which an entry takes those that its kind has: the digest of a secret, a paper's texts, a content, the
--- value of a bid, what a reviewer is to a paper, a form, the text of a comment or a response, whether a tag is on, and
--- a decision
+-- value of a bid, what a reviewer is to a paper, a form, the text of a comment or a response, a tag, whether it is on,
+-- and a decision
 pub record Payload : Type 0 where
   pub digest : List ℕ
   pub title : List ℕ
@@ -22,6 +24,7 @@ pub record Payload : Type 0 where
   pub kind : Kind
   pub form : Form
   pub text : List ℕ
+  pub tag : List ℕ
   pub on : Bool
   pub decision : Decision
 
@@ -34,6 +37,7 @@ pub record IsBoundedPayload (x : Payload) : Type 0 where
   pub value : x.value ≤ 40
   pub form : IsForm x.form
   pub text : IsCommentText x.text
+  pub tag : IsTrue (is_tag x.tag)
 
 -- ---- one entry
 
@@ -50,6 +54,7 @@ pub record Known : Type 0 where
   pub to_authors : Bool
   pub to_pc : Bool
   pub text : Bool
+  pub tag : Bool
   pub on : Bool
   pub decision : Bool
 
@@ -57,8 +62,17 @@ pub record Known : Type 0 where
 abbrev pub own_if : {A : Type 0} → Bool → A → A → A
 own_if known own other = if known then own else other
 
--- the entry with the other payload in place of its own, but for what is known. Its paper, its users, labels, numbers
--- and names are its own, and so is whether a conflict is on, which rules read
+-- both are so, or neither is
+abbrev pub agree : Bool → Bool → Bool
+agree a b = if a then b else not b
+
+-- the two tags are for the same: for the committee, for chairs, or for whoever sets them
+abbrev pub are_for_same : List ℕ → List ℕ → Bool
+are_for_same tag other = agree (is_committees tag) (is_committees other) && agree (is_chairs tag) (is_chairs other)
+
+-- the entry with the other payload in place of its own, but for what is known; a tag stays, too, where the other is for
+-- others. Its paper, its users, labels, numbers and names are its own, and so is whether a conflict is on, which rules
+-- read
 abbrev pub with_other : Known → Payload → Entry → Entry
 with_other known x (Registered user name digest) = Registered user name (own_if known.digest digest x.digest)
 with_other known x (Submitted paper title abstract) =
@@ -77,7 +91,8 @@ with_other known x (Reviewed paper ordinal version form) = Reviewed paper ordina
   to_pc = own_if known.to_pc form.to_pc x.form.to_pc;
 })
 with_other known x (Commented paper n ordinal text) = Commented paper n ordinal (own_if known.text text x.text)
-with_other known x (Tagged paper tag on) = Tagged paper tag (own_if known.on on x.on)
+with_other known x (Tagged paper tag on) =
+    Tagged paper (own_if (known.tag || not (are_for_same tag x.tag)) tag x.tag) (own_if known.on on x.on)
 with_other known x (Decided paper decision) = Decided paper (own_if known.decision decision x.decision)
 with_other known x (Responded paper text) = Responded paper (own_if known.text text x.text)
 with_other known x e = e

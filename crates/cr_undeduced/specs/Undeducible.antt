@@ -13,7 +13,7 @@ use Rattle.cr_base.specs.HistoryFacts.{phase_of, own_bytes_of}
 use Rattle.cr_policy.specs.Legal.{Legal}
 use Rattle.cr_bounds.specs.ShownTo.{PartFor, is_told, is_decided_again, is_past_discussion, digest_for, title_for}
 use Rattle.cr_bounds.specs.ShownTo.{abstract_for, content_for, value_for, review_kind_for, score_for, confidence_for}
-use Rattle.cr_bounds.specs.ShownTo.{to_authors_for, to_pc_for, text_for, switch_for, decision_for}
+use Rattle.cr_bounds.specs.ShownTo.{to_authors_for, to_pc_for, text_for, tag_for, switch_for, decision_for}
 use Rattle.cr_policy.specs.View.{View, view}
 use Rattle.cr_undeduced.specs.Payload.{Payload, IsBoundedPayload, Known, with_other, NoneLonger}
 
@@ -78,6 +78,7 @@ known_of looks before e = record {
   to_authors = any_told to_authors_for looks before e;
   to_pc = any_told to_pc_for looks before e;
   text = any_told text_for looks before e;
+  tag = any_told tag_for looks before e;
   on = any_told switch_for looks before e;
   decision = any_final looks e.entry || any_told decision_for looks before e;
 }

@@ -14,9 +14,10 @@ ghost use Rattle.cr_undeduced.specs.Undeducible.{OthersLegal, ShorterLegal, Look
 /// Of what nobody of a group was shown whenever they looked, they can rule out no value, though they tell each other
 /// all that they saw (nondeducibility: Sutherland, 1986). Take a legal history, any looks at it, each of a user or of
 /// an unauthenticated caller after so many entries, and for each of its places any other digest, title, abstract,
-/// content, bid, kind of seat, form, comment, response, switch of a tag and decision. The other history has these
+/// content, bid, kind of seat, form, comment, response, tag, switch of a tag and decision. The other history has these
 /// wherever the bounds give none of those who looked the part, all at once, part by part: it is legal, and at each of
-/// the looks the same is seen of it. What a part is shown for is said in the words of the bounds (`ShownTo`), so a
+/// the looks the same is seen of it. A tag stays, too, where the other isn't for the same, who are the committee,
+/// chairs, or whoever sets it. What a part is shown for is said in the words of the bounds (`ShownTo`), so a
 /// trigger table that shows more is refused. One thing stays though nobody is shown it: where somebody looked at the
 /// notification or later, the last decision on each paper that there was then, since whether it is accepted everyone
 /// is shown.
