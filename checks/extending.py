@@ -3,14 +3,15 @@
 """Tries the examples of docs/EXTENDING.md: each diff of checks/extending still applies.
 
     python3 checks/extending.py [NAME..]           whether each would apply, as `git apply` says
-    python3 checks/extending.py --build [NAME..]   applies each in a copy of the commit, and runs its cases there:
-                                                   `rt try --test` in crates/conformance, which proves nothing
+    python3 checks/extending.py --build [NAME..]   applies each in a copy of the commit, and runs the cases that it
+                                                   touches there, by `rt try` of conformance, which proves nothing
 
 NAME is a diff without its ending, such as `term`; all are taken where none is named. What an example touches may have
 moved: aim its diff anew. Git is needed; with --build the toolchain too, and some minutes for each. Ends with status 0
 where all apply, and with --build where all cases come out as due.
 """
 
+import re
 import subprocess
 import sys
 import tempfile
@@ -27,11 +28,16 @@ def applies(diff):
 
 
 def runs(diff):
-    """Whether the cases come out as due in a copy to which the diff was applied."""
+    """Whether the cases that the diff touches come out as due in a copy to which it was applied."""
+    cases = sorted(set(re.findall(r"^\+\+\+ b/crates/conformance/data/(\S+)", diff.read_text(), re.M)))
+    data = [word for case in cases for word in ("--data", f"{case}=data/{case}")]
     with tempfile.TemporaryDirectory() as folder:
         subprocess.run(["git", "clone", "--quiet", TOP, folder], check=True)
         subprocess.run(["git", "apply", diff], cwd=folder, check=True)
-        return subprocess.run(["rt", "try", "--test"], cwd=f"{folder}/crates/conformance", check=False).returncode == 0
+        done = subprocess.run(["rt", "try", "--steps", "100000", "--seconds", "900", *data], check=False,
+                              cwd=f"{folder}/crates/conformance", capture_output=True, text=True)
+    print(done.stdout[-2_000:] + done.stderr[-2_000:])
+    return "answers, 0 cases not as due" in done.stdout
 
 
 def main():
