@@ -2,8 +2,9 @@
 # SPDX-License-Identifier: Apache-2.0 OR MIT
 """Tries how the pages are written: short sentences, no words that this project avoids, a status on each claim.
 
-    python3 checks/prose.py [PAGE..]     the pages that are held to it (HELD) where none is named
-    python3 checks/prose.py --numbers    the words of each page, held or not, and the average length of a sentence
+    python3 checks/prose.py [PAGE..]              the pages that are held to it (HELD) where none is named
+    python3 checks/prose.py --numbers [COMMIT]    the words of each page, held or not, and the average length of a
+                                                  sentence; of the pages of a commit, where one is named
 
 A sentence has at most 30 words; what stands in code, in headings and in tables' heads isn't counted, and a cell of a
 table is a text of its own. The words of BANNED have a plainer one, which is told. A block or a row that cites a theorem
@@ -12,6 +13,7 @@ how many sentences were read; ends with status 0 where none is wrong. Python 3 a
 """
 
 import re
+import subprocess
 import sys
 
 from lib.pages import PAGES, blocks, plain, sentences, words
@@ -46,11 +48,11 @@ BANNED = (
 )
 
 
-def wrong_in(page):
+def wrong_in(name, text):
     """The sentences of a page, those of its tables apart, counted by their words, and what is wrong with it."""
     counts, in_tables, wrong = [], [], []
-    for block in blocks(page.read_text()):
-        where = f"{page.relative_to(TOP)}:{block.line}"
+    for block in blocks(text):
+        where = f"{name}:{block.line}"
         for text in map(plain, block.cells or (block.text,)):
             for sentence in sentences(text) if block.kind in ("paragraph", "item", "row") else ():
                 count = len(words(sentence))
@@ -61,34 +63,43 @@ def wrong_in(page):
                 found = re.search(expression, text)
                 if found:
                     wrong.append(f"{where}: \"{found.group().strip('.;:!? ')}\": write: {better}")
-        is_claim = page.name in CLAIMING and block.kind != "heading" and "`law_" in block.text
+        is_claim = name.split("/")[-1] in CLAIMING and block.kind != "heading" and "`law_" in block.text
         if is_claim and not STATUS.search(block.text):
             wrong.append(f"{where}: a claim without a status (Proved, Tested or Assumed)")
     return counts, in_tables, wrong
 
 
-def numbers():
+def pages_of(commit):
+    """The pages of a commit, by their names, with their texts."""
+    git = lambda *words: subprocess.run(["git", *words], cwd=TOP, capture_output=True, check=True).stdout.decode()
+    names = git("ls-tree", "-r", "--name-only", commit).split("\n")
+    pages = [name for name in names if re.fullmatch(r"[A-Z]+\.md|docs/\w+\.md|checks/planted/README\.md", name)]
+    return {name: git("show", f"{commit}:{name}") for name in pages}
+
+
+def numbers(pages):
     """Prints the words of each page, and the average length of its sentences."""
     total = 0
-    for page in PAGES:
-        counts, in_tables, _ = wrong_in(page)
+    for name, text in pages.items():
+        counts, in_tables, _ = wrong_in(name, text)
         total += sum(counts) + sum(in_tables)
-        print(f"{page.name}: {sum(counts):,} words, {sum(counts) / max(1, len(counts)):.1f} a sentence, "
+        print(f"{name}: {sum(counts):,} words, {sum(counts) / max(1, len(counts)):.1f} a sentence, "
               f"{max(counts, default=0)} at most; in tables {sum(in_tables):,}")
     print(f"{total:,} words in all")
 
 
 def main():
     named = sys.argv[1:]
-    if named == ["--numbers"]:
-        numbers()
+    if named[:1] == ["--numbers"]:
+        here = {page.relative_to(TOP).as_posix(): page.read_text() for page in PAGES}
+        numbers(pages_of(named[1]) if named[1:] else here)
         return 0
     pages = [page for page in PAGES if page.name in (named or HELD)]
     if len(pages) != len(named or HELD):
         sys.exit(f"no page of these names: {' '.join(sorted(set(named or HELD) - {page.name for page in pages}))}")
     read, wrong = 0, []
     for page in pages:
-        counts, in_tables, more = wrong_in(page)
+        counts, in_tables, more = wrong_in(page.relative_to(TOP).as_posix(), page.read_text())
         read += len(counts) + len(in_tables)
         wrong += more
     print("\n".join([*wrong, f"{len(pages)} pages, {read} sentences, {len(wrong)} wrong"]))
