@@ -6,10 +6,11 @@
 
 Each link leads to a file and a heading that are there; each path in backticks stands in the repository; each crate
 named is there, and the table in docs/ARCHITECTURE.md has each of crates.txt; each name of code in backticks stands in a
-source file, and in docs/CLAIMS_BY_CRATE.md in one of a crate that its section names; the table of errors in docs/API.md
-has exactly the names that cr_print prints; each decision that is cited is there; prose stays under 100 columns, and
-under 48,000 words on all pages, what programs print not counted. Python 3 alone is needed. Prints a line for each thing
-that isn't so, and last `N cited, M wrong`; ends with status 0 where none is wrong. Takes some seconds.
+source file, and in docs/CLAIMS_BY_CRATE.md in one of a crate that its section names, where each clause in parentheses
+is one of the function before it, or stands in what its contract cites; the table of errors in docs/API.md has exactly
+the names that cr_print prints; each decision that is cited is there; prose stays under 100 columns, and under 48,000
+words on all pages, what programs print not counted. Python 3 alone is needed. Prints a line for each thing that isn't
+so, and last `N cited, M wrong`; ends with status 0 where none is wrong. Takes some ten seconds.
 """
 
 import fnmatch
@@ -17,6 +18,7 @@ import functools
 import re
 import sys
 
+from lib.contracts import is_clause
 from lib.pages import PAGES, prose
 from lib.places import TOP
 
@@ -112,6 +114,17 @@ def names_elsewhere():
                     yield heading, name
 
 
+def clauses_elsewhere():
+    """On the page by crate, clauses that follow a function in parentheses and are none of it, each with the heading."""
+    sections = re.split(r"^## ", (TOP / "docs/CLAIMS_BY_CRATE.md").read_text(), flags=re.M)[1:]
+    for section in sections:
+        crates = {c for c in CRATES if re.search(rf"\b{c}\b", section)}
+        for function, clauses in re.findall(r"`(?:\w+::)?(\w+)` \(((?:`\w+`(?:, )?)+)\)", section):
+            for clause in re.findall(r"`(\w+)`", clauses):
+                if not is_clause(crates, function, clause):
+                    yield section.split("\n")[0], f"{function} has no clause {clause}"
+
+
 @functools.cache
 def words_of_libraries():
     """The kit's crates, which crates.txt lists after ours."""
@@ -171,6 +184,8 @@ def main():
     due = re.findall(r"^(\w+):", (TOP / "crates.txt").read_text(), re.M)
     for name in sorted(set(due) ^ set(listed)):
         wrong.append(f"docs/ARCHITECTURE.md: its table or crates.txt has {name}, and not the other")
+    for heading, why in clauses_elsewhere():
+        wrong.append(f"docs/CLAIMS_BY_CRATE.md: {heading}: {why}")
     table = set(re.findall(r"^\| ?`([a-z_]+)` ?\| ?\d{3} ?\|", (TOP / "docs/API.md").read_text(), re.M))
     for name in sorted(error_names() ^ table):
         wrong.append(f"docs/API.md: the error {name} is printed and not in the table, or the other way round")
