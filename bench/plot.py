@@ -148,7 +148,8 @@ def goals():
     for row in rows("figures.csv"):
         if row["goal"]:
             met = {"yes": "yes", "no": "**no**"}.get(row["met"], "not measured")
-            table.append(f"|{row['what']}|{row['measured']}|{row['goal']}|{met}|`bench/{row['script']}`, {row['date']}|")
+            by = f"`bench/{row['script']}`, {row['date']}"
+            table.append("|" + "|".join((row["what"], row["measured"], row["goal"], met, by)) + "|")
     return "\n".join([*table, ""])
 
 

@@ -51,8 +51,8 @@ def cites(text, name, depth=2):
 
 
 def is_clause(crates, function, name):
-    """Whether the name is a clause of a function of these crates, or of ports and disks, whose traits they implement, or
-    is in a definition that the contract cites; or is in a definition that is named in place of the function."""
+    """Whether the name is a clause of a function of these crates, or of ports and disks, whose traits they implement;
+    or stands in a definition that the contract cites, or in one that is named in place of the function."""
     if function in definitions() and cites(definitions()[function], name, 1):
         return True
     texts = [text for crate in {*crates, "cr_ports", "cr_disks"} for text in contracts(crate).get(function, ())]
