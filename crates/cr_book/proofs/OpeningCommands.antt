@@ -2,7 +2,7 @@
 -- history, and it adds a group that begins like the one that was added.
 use Rattle.std.proofs.Common.{ℕ, Bool, true, false, cond, ◌≡◌, ◌≤◌, ◌+◌, List, [], ◌∷◌, length, take, eqb, refl}
 use Rattle.std.proofs.Common.{sym, ap, subst, ◌∙◌, arith, Option, Some, None, Result, Ok, Err}
-use Rattle.std.specs.Prelude.{is_some, is_none, nat_le, unwrap_or, map, ◌&&◌}
+use Rattle.std.specs.Prelude.{is_none, nat_le, unwrap_or, ◌&&◌}
 use Rattle.std.specs.List.{AllByRecursion}
 use Rattle.std.specs.Option.{option_map, option_and_then}
 use Rattle.std.specs.Result.{result_ok}
@@ -23,46 +23,29 @@ use Rattle.cr_base.specs.declared.entry.Entry.TheVariants.{Reviewed, Commented, 
 use Rattle.cr_base.specs.declared.entry.Entry.TheVariants.{Invited, Uninvited, Responded}
 use Rattle.cr_base.specs.declared.entry.Stamp.{Stamp}
 use Rattle.cr_base.specs.declared.entry.Stamped.{Stamped}
-use Rattle.cr_base.specs.declared.form.Form.{Form}
 use Rattle.cr_base.specs.declared.reply.Rule.{Rule}
-use Rattle.cr_base.specs.declared.reply.Rule.TheVariants as rules
 use Rattle.cr_base.specs.declared.retry.RetryKey.{RetryKey}
 use Rattle.cr_base.specs.declared.row.Row.{Row}
-use Rattle.cr_base.specs.declared.standing.Standing.{Standing}
-use Rattle.cr_base.specs.declared.target.Target.{Target}
-use Rattle.cr_base.specs.declared.words.Decision.{Decision}
-use Rattle.cr_base.specs.declared.words.Mode.{Mode}
 use Rattle.cr_base.specs.declared.words.Phase.{Phase}
 use Rattle.cr_base.specs.declared.words.Phase.TheVariants.{Setup, Submission, Bidding, Reviewing, Response, Discussion}
 use Rattle.cr_base.specs.declared.words.Phase.TheVariants.{Notification, Closed}
 use Rattle.cr_base.specs.declared.words.Role.{Role}
 use Rattle.cr_base.specs.declared.words.Role.TheVariants as roles
-use Rattle.cr_base.specs.Accounts.{chair_count, lines_of}
+use Rattle.cr_base.specs.Accounts.{lines_of}
 use Rattle.cr_base.specs.Bounds.{IsBoundedCommand, IsForm}
 use Rattle.cr_base.specs.Bulk.{entries_of}
 use Rattle.cr_base.specs.History.{History}
 use Rattle.cr_base.specs.Judging.{judge_by_role}
 use Rattle.cr_base.specs.Calls.{call_by, stamp_of}
-use Rattle.cr_base.specs.Drawn.{Drawn, stamped, grouped, registration_drawn, phase_drawn}
-use Rattle.cr_base.specs.Drawn.{revision_drawn, upload_drawn, withdrawal_drawn, naming_drawn, mode_drawn, bid_drawn}
-use Rattle.cr_base.specs.Drawn.{review_drawn, comment_drawn, response_drawn, decision_drawn, deadline_drawn}
-use Rattle.cr_base.specs.Drawn.{dismissal_drawn, invitation_drawn, uninvitation_drawn}
-use Rattle.cr_base.specs.Invites.{is_invited_in}
-use Rattle.cr_base.specs.Lists.{at_some}
+use Rattle.cr_base.specs.Deeds.{Deed, deed_at, drawn_by}
+use Rattle.cr_base.specs.Drawn.{Drawn, stamped, grouped}
 use Rattle.cr_base.specs.Logins.{command_wants_login}
-use Rattle.cr_base.specs.Papers.{own_bytes, uploads_at}
-use Rattle.cr_base.specs.Seats.{ordinal_in}
-use Rattle.cr_base.specs.Sources.{is_late, number_in, paper_named, role_among, shown_in_tables}
-use Rattle.cr_base.specs.Sources.{facts_of_tables, standing_at, own_forms_in, target_named, user_among}
-use Rattle.cr_base.specs.Talk.{comments_in, comment_as_told, own_comments_in, response_in}
-use Rattle.cr_base.specs.Checks.{Check, NamedPaper, judged, of_role, register_checks, phase_checks}
-use Rattle.cr_base.specs.Checks.{revise_checks, upload_checks, name_checks, mode_checks, bid_checks, review_checks}
-use Rattle.cr_base.specs.Checks.{comment_checks, respond_checks, decide_checks, deadline_checks, dismiss_checks}
-use Rattle.cr_base.specs.Checks.{invite_checks, uninvite_checks}
+use Rattle.cr_base.specs.Sources.{facts_of_tables, role_among, shown_in_tables}
+use Rattle.cr_base.specs.Checks.{of_role}
 use Rattle.cr_base.specs.Texts.{IsTitle, IsAbstract}
 use Rattle.cr_base.proofs.CheckLaws.{NoneBroken, judged-Ok}
 use Rattle.cr_policy.proofs.AccountNames.{found_by_name}
-use Rattle.cr_book.proofs.OpeningNames.{named}
+use Rattle.cr_book.proofs.OpeningNames.{found-tells}
 use Rattle.cr_book.proofs.OpeningBulks.{none_some, some_is, with-name, row-judges, told-of_row, drawn-of_row, one_is}
 use Rattle.cr_book.proofs.OpeningLegal.{MayAdd}
 use Rattle.cr_base.specs.Rows.{rows_of, until_number, IsBoundedEntry}
@@ -71,15 +54,13 @@ use Rattle.cr_base.specs.Phases.{may_have_deadline}
 use Rattle.cr_base.specs.Shapes.{FitsStamp, InRange, deadline_phase_range}
 use Rattle.cr_base.specs.Tables.{Tables, tables_of}
 use Rattle.cr_base.specs.Words.{phase_number, role_number, is_member}
-use Rattle.cr_base.proofs.AccountLaws.{number_in-lines_of}
 use Rattle.cr_policy.specs.Judge.{judge}
 use Rattle.cr_policy.specs.Legal.{IsUser, CallsAs, IsCaller, IsAllowed, IsKeyOf, IsNewKey, Legal}
 use Rattle.cr_history.specs.Invariants.{IsRegistered}
 use Rattle.cr_policy.specs.View.{view}
 use Rattle.cr_policy.proofs.AcceptedLaws.{key-given}
 use Rattle.cr_policy.proofs.LegalLaws.{Legal-judge}
-use Rattle.cr_base.specs.Bulk.{IsRowCommand}
-use Rattle.cr_book.proofs.OpeningRowCommands.{row-adds}
+use Rattle.cr_book.proofs.OpeningRowCommands.{deed_of, misses, row-adds, row-tells}
 use Rattle.cr_book.proofs.OpeningRows.{bounded-stamp}
 use Rattle.cr_book.specs.BulkRebuilding.{is_of_row, IsDrawn}
 use Rattle.cr_book.specs.Rebuilding.{name_told, call_given, command_told, paper_command_told, user_command_told}
@@ -102,36 +83,100 @@ row-call t authors first command of_row told = by first.entry of_row ∙ ap (opt
     by (Tagged paper tag on) of_row = refl
     by e of_row = absurd (true≢false (sym of_row))
 
+-- and so it is where it tells a user's command
+user-call : (t : Tables) (authors : List (Option (List ℕ))) (first : Stamped) (command : Command)
+    → user_command_told t authors first.entry ≡ Some command
+    → call_told t authors first ≡ Some (call_by first.stamp command)
+user-call t authors first command told = by first.entry told
+  where
+    by : (e : Entry) → user_command_told t authors e ≡ Some command
+        → call_told t authors (record first { entry = e }) ≡ Some (call_by first.stamp command)
+    by (Registered user name digest) told = absurd (none_some command told)
+    by e told = ap (option_map (call_by first.stamp)) told
+
+-- a user's command that adds one entry
+abbrev AddsOneEntry : Command → Type 0
+AddsOneEntry (Register name digest) = ⊥
+AddsOneEntry (Submit title abstract authors) = ⊥
+AddsOneEntry command = Unit {0}
+
+-- one entry, which tells the command
+abbrev Tells : Tables → List (Option (List ℕ)) → Command → List Entry → Type 0
+Tells t authors command (e ∷ []) = user_command_told t authors e ≡ Some command
+Tells t authors command entries = ⊥
+
+-- such a command, where no rule is broken, does
+module _ (t : Tables) (authors : List (Option (List ℕ))) (stamp : Stamp) where
+  -- whether the rules miss the user whose role is asked
+  abbrev is_nobody : Option ℕ → Bool
+  is_nobody target = is_none (option_map of_role (role_among (lines_of t.accounts) target))
+
+  deed-tells : (command : Command) → AddsOneEntry command → NoneBroken (deed_of t stamp command).checks
+      → ((deed_of t stamp command).maker ≡ stamp.maker) × Tells t authors command (deed_of t stamp command).entries
+  deed-tells (SetPhase to) one none = (refl, refl)
+  deed-tells (SetMode to) one none = (refl, refl)
+  deed-tells (SetDeadline phase until) one none = (refl, refl)
+  deed-tells (Revise None title abstract) one none = absurd (true≢false none.0)
+  deed-tells (Revise (Some p) title abstract) one none = (refl, refl)
+  deed-tells (Upload None content) one none = absurd (true≢false none.0)
+  deed-tells (Upload (Some p) content) one none = (refl, refl)
+  deed-tells (Withdraw None) one none = absurd (true≢false none.0)
+  deed-tells (Withdraw (Some p)) one none = (refl, refl)
+  deed-tells (commands.Bid None value) one none = absurd (true≢false none.0)
+  deed-tells (commands.Bid (Some p) value) one none = (refl, refl)
+  deed-tells (Review None form) one none = absurd (true≢false none.0)
+  deed-tells (Review (Some p) form) one none = (refl, refl)
+  deed-tells (Comment None text) one none = absurd (true≢false none.0)
+  deed-tells (Comment (Some p) text) one none = (refl, refl)
+  deed-tells (Respond None text) one none = absurd (true≢false none.0)
+  deed-tells (Respond (Some p) text) one none = (refl, refl)
+  deed-tells (Decide None decision) one none = absurd (true≢false none.0)
+  deed-tells (Decide (Some p) decision) one none = (refl, refl)
+  deed-tells (Name name role) one none = (
+    refl,
+    found-tells t name (λ n. Name n role) (λ v. user_command_told t authors (Named (unwrap_or v 0) role))
+        is_nobody refl (λ v. refl) none.0,
+  )
+  deed-tells (Dismiss name) one none = (
+    refl,
+    found-tells t name Dismiss (λ v. user_command_told t authors (Dismissed (unwrap_or v 0))) is_nobody refl
+        (λ v. refl) none.0,
+  )
+  deed-tells (Invite None name) one none = absurd (true≢false none.0)
+  deed-tells (Invite (Some p) name) one none = (
+    refl,
+    found-tells t name (λ n. Invite (Some p) n)
+        (λ v. user_command_told t authors (Invited p (unwrap_or v 0))) (misses t stamp p) refl (λ v. refl) none.1.0,
+  )
+  deed-tells (Uninvite None name) one none = absurd (true≢false none.0)
+  deed-tells (Uninvite (Some p) name) one none = (
+    refl,
+    found-tells t name (λ n. Uninvite (Some p) n)
+        (λ v. user_command_told t authors (Uninvited p (unwrap_or v 0))) (misses t stamp p) refl (λ v. refl) none.1.0,
+  )
+  deed-tells (SetConflict paper name on) one none =
+      let row = row-tells t stamp (SetConflict paper name on) tt none in (row.0, row.1.1)
+  deed-tells (Assign paper name kind) one none =
+      let row = row-tells t stamp (Assign paper name kind) tt none in (row.0, row.1.1)
+  deed-tells (Unassign paper name) one none =
+      let row = row-tells t stamp (Unassign paper name) tt none in (row.0, row.1.1)
+  deed-tells (Tag paper tag on) one none = let row = row-tells t stamp (Tag paper tag on) tt none in (row.0, row.1.1)
+  deed-tells command one none = absurd one
+
 module _ (t : Tables) (rows : List Row) (drawn : Drawn) (begins : take (length rows) (rows_of drawn.group) ≡ rows) where
   -- nobody's has no number
   nobodys : (key : Option RetryKey) → IsKeyOf None key → (is_none key && true) ≡ true
   nobodys None keyless = refl
   nobodys (Some key) keyless = absurd keyless
 
-  -- a group of one entry
-  told-single : (stamp : Stamp) (e : Entry) (command : Command) (given : Drawn) → given.group ≡ grouped stamp (e ∷ [])
-      → given ≡ drawn
-      → is_known t (Some stamp.maker) ≡ true → call_told t (authors_told t stamp.maker rows) (stamped stamp false e)
-      ≡ Some (call_by stamp command)
-      → judge_by_role t (call_by stamp command) ≡ Ok drawn → ToldByRows t rows drawn
-  told-single stamp e command given group is known told accepted = record {
-    first = stamped stamp false e;
-    rest = [];
-    group_is = ap (λ (d : Drawn). d.group) (sym is) ∙ group;
-    given = drawn;
-    told = told-judged t (authors_told t stamp.maker rows) (stamped stamp false e) (call_by stamp command) (Ok drawn)
-        told known accepted;
-    begins = begins;
-  }
-
   register-told : (call : Call) (name digest : List ℕ) → IsKeyOf None call.key
       → judge_by_role t (record call { caller = None; command = Register name digest }) ≡ Ok drawn
       → ToldByRows t rows drawn
   register-told call name digest keyless accepted =
       let n : ℕ = length (lines_of t.accounts) in
-      let k = judged-Ok (register_checks (is_some (number_in (lines_of t.accounts) name)) n)
-      (registration_drawn (stamp 0) (n + 1) name digest) drawn accepted in
-      by (eqb (n + 1) 1) (n + 1) (sym (ap (λ (d : Drawn). d.group) k.1))
+      let d : Deed = deed_at (facts_of_tables t None) (shown_in_tables t) (stamp 0) (Register name digest) in
+      by (eqb (n + 1) 1) (n + 1)
+      (sym (ap (λ (x : Drawn). x.group) (judged-Ok d.checks (drawn_by (stamp 0) d) drawn accepted).1))
     where
       stamp : ℕ → Stamp
       stamp user = record (stamp_of call) { maker = user }
@@ -158,240 +203,31 @@ module _ (t : Tables) (rows : List Row) (drawn : Drawn) (begins : take (length r
       by true user is = begun user true (stamped (stamp user) false (Named user roles.Chair) ∷ []) is
       by false user is = begun user false [] is
 
-  module _ (stamp : Stamp) (known : is_known t (Some stamp.maker) ≡ true) where
-    name-told : (name : Option (List ℕ)) (role : Role) → judge_by_role t (call_by stamp (Name name role)) ≡ Ok drawn
-        → ToldByRows t rows drawn
-    name-told None role accepted =
-        absurd
-        (true≢false (judged-Ok (name_checks (standing_at t (Some stamp.maker) None) None role)
-        (naming_drawn stamp 0 [] role) drawn accepted).0.0)
-    name-told (Some name) role accepted = by (number_in (lines_of t.accounts) name) refl
-      where
-        by : (target : Option ℕ) → number_in (lines_of t.accounts) name ≡ target → ToldByRows t rows drawn
-        by None is =
-            let k =
-            judged-Ok (name_checks (standing_at t (Some stamp.maker) None)
-            (option_map of_role (role_among (lines_of t.accounts) (number_in (lines_of t.accounts) name))) role)
-            (naming_drawn stamp (unwrap_or (number_in (lines_of t.accounts) name) 0) name role) drawn accepted in
-            absurd
-            (true≢false (ap (λ (o : Option ℕ). is_none (option_map of_role (role_among (lines_of t.accounts) o)))
-            (sym is) ∙ k.0.0))
-        by (Some v) is =
-            let k =
-            judged-Ok (name_checks (standing_at t (Some stamp.maker) None)
-            (option_map of_role (role_among (lines_of t.accounts) (number_in (lines_of t.accounts) name))) role)
-            (naming_drawn stamp (unwrap_or (number_in (lines_of t.accounts) name) 0) name role) drawn accepted in
-            told-single stamp (Named v role) (Name (Some name) role) (naming_drawn stamp v name role) refl
-            (ap (λ (o : Option ℕ). naming_drawn stamp (unwrap_or o 0) name role) (sym is) ∙ k.1) known
-            (ap (λ (o : Option (List ℕ)). option_map (call_by stamp)
-            (option_map (λ (n : List ℕ). Name (Some n) role) o))
-            (named t name v (sym (number_in-lines_of t.accounts name) ∙ is))) accepted
+  -- a user's command that adds one entry
+  one-told : (stamp : Stamp) → is_known t (Some stamp.maker) ≡ true → (command : Command) → AddsOneEntry command
+      → judge_by_role t (call_by stamp command) ≡ Ok drawn → ToldByRows t rows drawn
+  one-told stamp known command one accepted =
+      let d : Deed = deed_of t stamp command in
+      let k = judged-Ok d.checks (drawn_by stamp d) drawn accepted in
+      let tells = deed-tells t authors stamp command one k.0 in
+      by d.entries (sym (ap (λ (x : Drawn). x.group) k.1)
+      ∙ ap (λ (m : ℕ). grouped (record stamp { maker = m }) d.entries) tells.0) tells.1
+    where
+      authors : List (Option (List ℕ))
+      authors = authors_told t stamp.maker rows
 
-    -- What else names a user wants her to be there. It adds one entry, which tells the command.
-    user-told : (name : Option (List ℕ)) (made : Option (List ℕ) → Command) (entry : ℕ → Entry)
-        (checks : Option ℕ → List Check)
-        (draws : Option (List ℕ) → Option ℕ → Drawn)
-        → ((named : Option (List ℕ)) → judge_by_role t (call_by stamp (made named))
-        ≡ judged (checks (user_among (lines_of t.accounts) named))
-        (draws named (user_among (lines_of t.accounts) named)))
-        → (NoneBroken (checks None) → ⊥)
-        → ((n : List ℕ) (v : ℕ) → (draws (Some n) (Some v)).group ≡ grouped stamp (entry v ∷ []))
-        → ((v : ℕ) → call_told t (authors_told t stamp.maker rows) (stamped stamp false (entry v))
-        ≡ option_map (call_by stamp) (option_map (λ (n : List ℕ). made (Some n)) (name_told t v)))
-        → judge_by_role t (call_by stamp (made name)) ≡ Ok drawn → ToldByRows t rows drawn
-    user-told None made entry checks draws judges none group tells accepted =
-        absurd (none (judged-Ok (checks None) (draws None None) drawn (sym (judges None) ∙ accepted)).0)
-    user-told (Some name) made entry checks draws judges none group tells accepted =
-        by (number_in (lines_of t.accounts) name) refl
-        (judged-Ok (checks (number_in (lines_of t.accounts) name))
-        (draws (Some name) (number_in (lines_of t.accounts) name)) drawn (sym (judges (Some name)) ∙ accepted))
-      where
-        by : (target : Option ℕ) → number_in (lines_of t.accounts) name ≡ target
-            → NoneBroken (checks (number_in (lines_of t.accounts) name))
-            × (draws (Some name) (number_in (lines_of t.accounts) name) ≡ drawn) → ToldByRows t rows drawn
-        by None is kept = absurd (none (subst (λ (o : Option ℕ). NoneBroken (checks o)) is kept.0))
-        by (Some v) is kept =
-            told-single stamp (entry v) (made (Some name)) (draws (Some name) (Some v)) (group name v)
-            (ap (draws (Some name)) (sym is) ∙ kept.1) known
-            (tells v
-            ∙ ap (λ (o : Option (List ℕ)). option_map (call_by stamp) (option_map (λ (n : List ℕ). made (Some n)) o))
-            (named t name v (sym (number_in-lines_of t.accounts name) ∙ is))) accepted
-
-    dismissal-told : (name : Option (List ℕ)) → judge_by_role t (call_by stamp (Dismiss name)) ≡ Ok drawn
-        → ToldByRows t rows drawn
-    dismissal-told name =
-        user-told name Dismiss Dismissed
-        (λ target. dismiss_checks (standing_at t (Some stamp.maker) None)
-        (option_map of_role (role_among (lines_of t.accounts) target)) (chair_count (lines_of t.accounts)))
-        (λ named target. dismissal_drawn stamp (unwrap_or target 0) (unwrap_or named [])) (λ named. refl)
-        (λ none. true≢false none.0) (λ n v. refl) (λ v. refl)
-
-    -- the paper and the user named, as the rules ask of them
-    abbrev named_paper : Option ℕ → NamedPaper
-    named_paper paper = paper_named (facts_of_tables t (Some stamp.maker)) (shown_in_tables t) paper
-
-    abbrev named_user : Option ℕ → Option ℕ → Option Target
-    named_user paper target =
-        target_named (facts_of_tables t (Some stamp.maker)) (shown_in_tables t) (Some stamp.maker) paper target
-
-    abbrev inviting : Option ℕ → Option ℕ → List Check
-    inviting paper target =
-        invite_checks (standing_at t (Some stamp.maker) paper) (named_paper paper) (named_user paper target)
-        (at_some (is_invited_in t.invites target) paper)
-
-    abbrev uninviting : Option ℕ → Option ℕ → List Check
-    uninviting paper target =
-        uninvite_checks (standing_at t (Some stamp.maker) paper) (named_paper paper) (named_user paper target)
-        (at_some (is_invited_in t.invites target) paper)
-
-    invitation-told : (paper : Option ℕ) (name : Option (List ℕ))
-        → judge_by_role t (call_by stamp (Invite paper name)) ≡ Ok drawn → ToldByRows t rows drawn
-    invitation-told None name accepted =
-        let target : Option ℕ = user_among (lines_of t.accounts) name in
-        absurd
-        (true≢false (judged-Ok (inviting None target) (invitation_drawn stamp 0 (unwrap_or target 0)) drawn
-        accepted).0.0)
-    invitation-told (Some p) name accepted =
-        user-told name (λ named. Invite (Some p) named) (Invited p) (inviting (Some p))
-        (λ named target. invitation_drawn stamp p (unwrap_or target 0))
-        (λ named. refl) (λ none. true≢false none.1.0) (λ n v. refl) (λ v. refl) accepted
-
-    uninvitation-told : (paper : Option ℕ) (name : Option (List ℕ))
-        → judge_by_role t (call_by stamp (Uninvite paper name)) ≡ Ok drawn → ToldByRows t rows drawn
-    uninvitation-told None name accepted =
-        let target : Option ℕ = user_among (lines_of t.accounts) name in
-        absurd
-        (true≢false (judged-Ok (uninviting None target) (uninvitation_drawn stamp 0 (unwrap_or target 0)) drawn
-        accepted).0.0)
-    uninvitation-told (Some p) name accepted =
-        user-told name (λ named. Uninvite (Some p) named) (Uninvited p) (uninviting (Some p))
-        (λ named target. uninvitation_drawn stamp p (unwrap_or target 0))
-        (λ named. refl) (λ none. true≢false none.1.0) (λ n v. refl) (λ v. refl) accepted
-
-    -- a command that a row of a bulk may tell as well
-    row-told : (command : Command) → IsRowCommand command → judge_by_role t (call_by stamp command) ≡ Ok drawn
-        → ToldByRows t rows drawn
-    row-told command of_row accepted =
-        let one = row-adds t stamp drawn command of_row accepted in
-        told-single stamp one.entry command drawn one.group_is refl known
-        (row-call t (authors_told t stamp.maker rows) (stamped stamp false one.entry) command one.of_row one.told)
-        accepted
-
-    -- What is done to a paper without naming a user wants the paper to be there. It adds one entry, which tells the
-    -- command.
-    paper-told : (paper : Option ℕ) (made : Option ℕ → Command) (entry : ℕ → Entry) (checks : ℕ → List Check)
-        (draws : ℕ → Drawn)
-        → judge_by_role t (call_by stamp (made None)) ≡ Err rules.NoPaper
-        → ((p : ℕ) → (judge_by_role t (call_by stamp (made (Some p))) ≡ judged (checks p) (draws p))
-        × ((draws p).group ≡ grouped stamp (entry p ∷ []))
-        × (call_told t (authors_told t stamp.maker rows) (stamped stamp false (entry p))
-        ≡ Some (call_by stamp (made (Some p)))))
-        → judge_by_role t (call_by stamp (made paper)) ≡ Ok drawn → ToldByRows t rows drawn
-    paper-told None made entry checks draws none is accepted = absurd (no_paper (sym none ∙ accepted))
-      where
-        no_paper : ◌≡◌ {A = Result Drawn Rule} (Err rules.NoPaper) (Ok drawn) → ⊥
-        no_paper e = cc (e)
-    paper-told (Some p) made entry checks draws none is accepted =
-        let one = is p in
-        told-single stamp (entry p) (made (Some p)) (draws p) one.1
-        (judged-Ok (checks p) (draws p) drawn (sym one.0 ∙ accepted)).1 known one.2 accepted
-
-    -- whether it is too late for what the phase opens
-    abbrev late : Bool
-    late = is_late (facts_of_tables t (Some stamp.maker)) stamp.at
-
-    -- how the user stands to a paper
-    abbrev standing : ℕ → Standing
-    standing p = standing_at t (Some stamp.maker) (Some p)
-
-    revision-told : (paper : Option ℕ) (title abstract : List ℕ)
-        → judge_by_role t (call_by stamp (Revise paper title abstract)) ≡ Ok drawn → ToldByRows t rows drawn
-    revision-told paper title abstract =
-        paper-told paper (λ paper. Revise paper title abstract) (λ p. Revised p title abstract)
-        (λ p. revise_checks (standing p) (named_paper (Some p)) late)
-        (λ p. revision_drawn stamp p title abstract) refl (λ p. (refl, refl, refl))
-
-    upload-told : (paper : Option ℕ) (content : List ℕ)
-        → judge_by_role t (call_by stamp (Upload paper content)) ≡ Ok drawn → ToldByRows t rows drawn
-    upload-told paper content =
-        paper-told paper (λ paper. Upload paper content) (λ p. Uploaded p (version p) content)
-        (λ p. upload_checks (standing p) (named_paper (Some p)) (own_bytes t.papers (Some stamp.maker)) (length content)
-        late)
-        (λ p. upload_drawn stamp p (version p) content) refl (λ p. (refl, refl, refl))
-      where
-        version : ℕ → ℕ
-        version p = length (uploads_at t.papers p) + 1
-
-    withdrawal-told : (paper : Option ℕ) → judge_by_role t (call_by stamp (Withdraw paper)) ≡ Ok drawn
-        → ToldByRows t rows drawn
-    withdrawal-told paper =
-        paper-told paper Withdraw Withdrawn (λ p. revise_checks (standing p) (named_paper (Some p)) late)
-        (withdrawal_drawn stamp) refl (λ p. (refl, refl, refl))
-
-    bid-told : (paper : Option ℕ) (value : ℕ) → judge_by_role t (call_by stamp (commands.Bid paper value)) ≡ Ok drawn
-        → ToldByRows t rows drawn
-    bid-told paper value =
-        paper-told paper (λ paper. commands.Bid paper value) (λ p. entries.Bid p value)
-        (λ p. bid_checks (standing p) (named_paper (Some p)) late)
-        (λ p. bid_drawn stamp p value) refl (λ p. (refl, refl, refl))
-
-    review-told : (paper : Option ℕ) (form : Form) → judge_by_role t (call_by stamp (Review paper form)) ≡ Ok drawn
-        → ToldByRows t rows drawn
-    review-told paper form =
-        paper-told paper (λ paper. Review paper form) (λ p. Reviewed p (ordinal p) (version p) form)
-        (λ p. review_checks (standing p) (named_paper (Some p)) late)
-        (λ p. review_drawn stamp p (ordinal p) (version p) form) refl (λ p. (refl, refl, refl))
-      where
-        ordinal : ℕ → ℕ
-        ordinal p = unwrap_or (ordinal_in t.seats (Some stamp.maker) p) 0
-
-        version : ℕ → ℕ
-        version p = length (own_forms_in t (Some stamp.maker) p) + 1
-
-    comment-told : (paper : Option ℕ) (text : List ℕ) → judge_by_role t (call_by stamp (Comment paper text)) ≡ Ok drawn
-        → ToldByRows t rows drawn
-    comment-told paper text =
-        paper-told paper (λ paper. Comment paper text)
-        (λ p. Commented p (n p) (ordinal_in t.seats (Some stamp.maker) p) text)
-        (λ p. comment_checks (standing p) (named_paper (Some p)) (own_comments_in t.talk (Some stamp.maker)) late)
-        (λ p. comment_drawn stamp p (n p) (ordinal_in t.seats (Some stamp.maker) p) text) refl (λ p. (refl, refl, refl))
-      where
-        n : ℕ → ℕ
-        n p = length (map comment_as_told (comments_in t.talk p)) + 1
-
-    response-told : (paper : Option ℕ) (text : List ℕ) → judge_by_role t (call_by stamp (Respond paper text)) ≡ Ok drawn
-        → ToldByRows t rows drawn
-    response-told paper text =
-        paper-told paper (λ paper. Respond paper text) (λ p. Responded p text)
-        (λ p. respond_checks (standing p) (named_paper (Some p)) (is_some (response_in t.talk p)) late)
-        (λ p. response_drawn stamp p text) refl (λ p. (refl, refl, refl))
-
-    decision-told : (paper : Option ℕ) (decision : Decision)
-        → judge_by_role t (call_by stamp (Decide paper decision)) ≡ Ok drawn → ToldByRows t rows drawn
-    decision-told paper decision =
-        paper-told paper (λ paper. Decide paper decision) (λ p. Decided p decision)
-        (λ p. decide_checks (standing p) (named_paper (Some p)))
-        (λ p. decision_drawn stamp p decision) refl (λ p. (refl, refl, refl))
-
-    stage-told : (to : Phase) → judge_by_role t (call_by stamp (SetPhase to)) ≡ Ok drawn → ToldByRows t rows drawn
-    stage-told to accepted =
-        let by = standing_at t (Some stamp.maker) None in
-        told-single stamp (PhaseSet to) (SetPhase to) (phase_drawn stamp to) refl
-        (judged-Ok (phase_checks by by.phase to) (phase_drawn stamp to) drawn accepted).1 known refl accepted
-
-    mode-told : (to : Mode) → judge_by_role t (call_by stamp (SetMode to)) ≡ Ok drawn → ToldByRows t rows drawn
-    mode-told to accepted =
-        let by = standing_at t (Some stamp.maker) None in
-        told-single stamp (ModeSet to) (SetMode to) (mode_drawn stamp to) refl
-        (judged-Ok (mode_checks by by.phase) (mode_drawn stamp to) drawn accepted).1 known refl accepted
-
-    deadline-told : (phase : Phase) (until : Option ℕ)
-        → judge_by_role t (call_by stamp (SetDeadline phase until)) ≡ Ok drawn → ToldByRows t rows drawn
-    deadline-told phase until accepted =
-        let by = standing_at t (Some stamp.maker) None in
-        told-single stamp (DeadlineSet phase until) (SetDeadline phase until) (deadline_drawn stamp phase until) refl
-        (judged-Ok (deadline_checks by by.phase phase) (deadline_drawn stamp phase until) drawn accepted).1 known refl
-        accepted
+      by : (es : List Entry) → drawn.group ≡ grouped stamp es → Tells t authors command es → ToldByRows t rows drawn
+      by [] is tells = absurd tells
+      by (e ∷ []) is tells = record {
+        first = stamped stamp false e;
+        rest = [];
+        group_is = is;
+        given = drawn;
+        told = told-judged t authors (stamped stamp false e) (call_by stamp command) (Ok drawn)
+            (user-call t authors (stamped stamp false e) command tells) known accepted;
+        begins = begins;
+      }
+      by (e ∷ next ∷ es) is tells = absurd tells
 
 -- a tag is turned on, and off, by whoever is logged in
 tags-login : (paper : Option ℕ) (tag : List ℕ) (on : Bool) → command_wants_login (Tag paper tag on) ≡ true
@@ -430,47 +266,13 @@ accepted-told H call drawn r behind legal allowed accepted begins bounded =
     by None (Tag paper tag on) is within key judges =
         absurd (subst (λ (login : Bool). CallsAs H login None) (tags-login paper tag on) is)
     by None command is within key judges = absurd is
-    by (Some user) (SetPhase to) is within key judges =
-        stage-told t rows drawn begins (stamp user) (registered user is) to judges
-    by (Some user) (SetMode to) is within key judges =
-        mode-told t rows drawn begins (stamp user) (registered user is) to judges
-    by (Some user) (SetDeadline phase until) is within key judges =
-        deadline-told t rows drawn begins (stamp user) (registered user is) phase until judges
     by (Some user) (Submit title abstract authors) is within key judges = submission-told t (found_by_name H legal)
         (stamp user) (registered user is) drawn r behind title abstract authors within.2 judges begins bounded
-    by (Some user) (Revise paper title abstract) is within key judges =
-        revision-told t rows drawn begins (stamp user) (registered user is) paper title abstract judges
-    by (Some user) (Upload paper content) is within key judges =
-        upload-told t rows drawn begins (stamp user) (registered user is) paper content judges
-    by (Some user) (Withdraw paper) is within key judges =
-        withdrawal-told t rows drawn begins (stamp user) (registered user is) paper judges
-    by (Some user) (Name name role) is within key judges =
-        name-told t rows drawn begins (stamp user) (registered user is) name role judges
-    by (Some user) (Dismiss name) is within key judges =
-        dismissal-told t rows drawn begins (stamp user) (registered user is) name judges
-    by (Some user) (Invite paper name) is within key judges =
-        invitation-told t rows drawn begins (stamp user) (registered user is) paper name judges
-    by (Some user) (Uninvite paper name) is within key judges =
-        uninvitation-told t rows drawn begins (stamp user) (registered user is) paper name judges
-    by (Some user) (SetConflict paper name on) is within key judges =
-        row-told t rows drawn begins (stamp user) (registered user is) (SetConflict paper name on) tt judges
-    by (Some user) (commands.Bid paper value) is within key judges =
-        bid-told t rows drawn begins (stamp user) (registered user is) paper value judges
-    by (Some user) (Assign paper name kind) is within key judges =
-        row-told t rows drawn begins (stamp user) (registered user is) (Assign paper name kind) tt judges
-    by (Some user) (Unassign paper name) is within key judges =
-        row-told t rows drawn begins (stamp user) (registered user is) (Unassign paper name) tt judges
-    by (Some user) (Review paper form) is within key judges =
-        review-told t rows drawn begins (stamp user) (registered user is) paper form judges
-    by (Some user) (Comment paper text) is within key judges =
-        comment-told t rows drawn begins (stamp user) (registered user is) paper text judges
-    by (Some user) (Respond paper text) is within key judges =
-        response-told t rows drawn begins (stamp user) (registered user is) paper text judges
     by (Some user) (Tag paper tag on) is within key judges =
         let made = subst (λ (login : Bool). CallsAs H login (Some user)) (tags-login paper tag on) is in
-        row-told t rows drawn begins (stamp user) (registered user made) (Tag paper tag on) tt judges
-    by (Some user) (Decide paper decision) is within key judges =
-        decision-told t rows drawn begins (stamp user) (registered user is) paper decision judges
+        one-told t rows drawn begins (stamp user) (registered user made) (Tag paper tag on) tt judges
+    by (Some user) command is within key judges =
+        one-told t rows drawn begins (stamp user) (registered user is) command tt judges
 
 -- ---- the call of an entry
 

@@ -1,15 +1,18 @@
 -- Users and their names, by the tables: a user has the name by which she is found, and the first users who aren't
 -- taken.
 use Rattle.std.proofs.Common.{ℕ, Bool, true, false, cond, ◌≡◌, ◌≤◌, ◌<◌, ◌+◌, ◌-◌, List, [], ◌∷◌, eqb, zero, suc, refl}
-use Rattle.std.proofs.Common.{sym, ap, ◌∙◌, arith, Some}
+use Rattle.std.proofs.Common.{sym, ap, ◌∙◌, arith, Option, Some, None}
 use Rattle.std.specs.List.{slice_get}
 use Rattle.std.specs.Option.{option_map, option_and_then}
 use Rattle.std.proofs.lemmas.Bool.{eqb-true, true≢false}
 use Rattle.std.proofs.lemmas.Bool.Decides.{nat_tests}
+use Rattle.cr_base.specs.declared.command.Command.{Command}
 use Rattle.cr_base.specs.declared.entry.Account.{Account}
 use Rattle.cr_base.specs.declared.row.Row.{Row}
-use Rattle.cr_base.specs.Accounts.{number_at}
+use Rattle.cr_base.specs.Accounts.{number_at, lines_of}
+use Rattle.cr_base.specs.Sources.{number_in, user_among}
 use Rattle.cr_base.specs.Tables.{Tables}
+use Rattle.cr_base.proofs.AccountLaws.{number_in-lines_of}
 use Rattle.cr_base.proofs.NameLaws.{name-found}
 use Rattle.cr_policy.proofs.AccountNames.{none_some}
 use Rattle.cr_book.specs.Rebuilding.{name_told, is_taken, first_free, name_left}
@@ -19,6 +22,22 @@ use Rattle.cr_book.specs.Rebuilding.{name_told, is_taken, first_free, name_left}
 pub named : (t : Tables) (name : List ℕ) (user : ℕ) → number_at t.accounts name ≡ Some user
     → name_told t user ≡ Some name
 named t name user is = name-found t.accounts name user is
+
+-- What tells a command by the number of whichever user it names tells it by that of the user whom its name finds,
+-- where the rules ask that she is there.
+pub found-tells : (t : Tables) (name : Option (List ℕ)) (made : Option (List ℕ) → Command)
+    (told : Option ℕ → Option Command) (asks : Option ℕ → Bool) → asks None ≡ true
+    → ((v : ℕ) → told (Some v) ≡ option_map (λ (n : List ℕ). made (Some n)) (name_told t v))
+    → asks (user_among (lines_of t.accounts) name) ≡ false
+    → told (user_among (lines_of t.accounts) name) ≡ Some (made name)
+found-tells t None made told asks nobody tells there = absurd (true≢false (sym nobody ∙ there))
+found-tells t (Some name) made told asks nobody tells there = by (number_in (lines_of t.accounts) name) refl there
+  where
+    by : (target : Option ℕ) → number_in (lines_of t.accounts) name ≡ target → asks target ≡ false
+        → told target ≡ Some (made (Some name))
+    by None is there = absurd (true≢false (sym nobody ∙ there))
+    by (Some v) is there = tells v ∙ ap (option_map (λ (n : List ℕ). made (Some n)))
+        (named t name v (sym (number_in-lines_of t.accounts name) ∙ is))
 
 -- ---- somebody who isn't taken
 

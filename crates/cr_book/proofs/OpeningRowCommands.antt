@@ -1,34 +1,26 @@
 -- The commands of a bulk's rows, each given on a paper: what one adds tells it, and it is accepted of a paper alone
 -- that its caller may tag as well.
 use Rattle.std.proofs.Common.{ℕ, Bool, true, ◌≡◌, List, [], ◌∷◌, refl, sym, ap, ◌∙◌, ◌+◌, Option, Some, None, Ok}
-use Rattle.std.specs.Prelude.{unwrap_or}
-use Rattle.std.specs.Option.{option_map}
+use Rattle.std.specs.Prelude.{is_none, unwrap_or}
 use Rattle.std.proofs.lemmas.Bool.{true≢false}
 use Rattle.cr_base.specs.declared.command.Command.{Command}
 use Rattle.cr_base.specs.declared.command.Command.TheVariants.{SetConflict, Assign, Unassign, Tag}
 use Rattle.cr_base.specs.declared.entry.Entry.{Entry}
 use Rattle.cr_base.specs.declared.entry.Entry.TheVariants.{Conflict, Assigned, Unassigned, Tagged}
 use Rattle.cr_base.specs.declared.entry.Stamp.{Stamp}
-use Rattle.cr_base.specs.declared.target.Target.{Target}
-use Rattle.cr_base.specs.declared.words.Kind.{Kind}
 use Rattle.cr_base.specs.Accounts.{lines_of}
 use Rattle.cr_base.specs.Calls.{call_by}
-use Rattle.cr_base.specs.Checks.{Check, NamedPaper, judged, conflict_checks, assign_checks, unassign_checks, tag_checks}
-use Rattle.cr_base.specs.Drawn.{Drawn, grouped, conflict_drawn, assignment_drawn, unassignment_drawn, tag_drawn}
+use Rattle.cr_base.specs.Deeds.{Deed, deed_at, drawn_by}
+use Rattle.cr_base.specs.Drawn.{Drawn, grouped}
 use Rattle.cr_base.specs.Judging.{judge_by_role}
-use Rattle.cr_base.specs.Lists.{at_some}
-use Rattle.cr_base.specs.Reviews.{is_written_in}
 use Rattle.cr_base.specs.Seats.{labels_in, ordinal_in}
-use Rattle.cr_base.specs.Sources.{is_late, paper_named, target_named, user_among, facts_of_tables, shown_in_tables}
-use Rattle.cr_base.specs.Sources.{standing_at}
-use Rattle.cr_base.specs.TagTexts.{is_for_chairs}
+use Rattle.cr_base.specs.Sources.{target_named, user_among, facts_of_tables, shown_in_tables}
 use Rattle.cr_base.specs.Tables.{Tables}
-use Rattle.cr_base.proofs.AccountLaws.{number_in-lines_of}
 use Rattle.cr_base.proofs.CheckLaws.{NoneBroken, judged-Ok}
-use Rattle.cr_book.specs.Rebuilding.{name_told, paper_command_told}
+use Rattle.cr_book.specs.Rebuilding.{paper_command_told}
 use Rattle.cr_book.specs.BulkRebuilding.{is_of_row}
 use Rattle.cr_base.specs.Bulk.{IsRowCommand}
-use Rattle.cr_book.proofs.OpeningNames.{named}
+use Rattle.cr_book.proofs.OpeningNames.{found-tells}
 
 -- what is drawn is one entry, which tells the command
 pub record AddsOne (t : Tables) (stamp : Stamp) (command : Command) (drawn : Drawn) : Type 0 where
@@ -38,141 +30,68 @@ pub record AddsOne (t : Tables) (stamp : Stamp) (command : Command) (drawn : Dra
   pub told : paper_command_told t entry ≡ Some command
 
 module _ (t : Tables) (stamp : Stamp) where
-  -- the user of a name, and the paper and the user whom a command names
-  abbrev found : Option (List ℕ) → Option ℕ
-  found name = user_among (lines_of t.accounts) name
+  -- what a command does, by the tables
+  abbrev pub deed_of : Command → Deed
+  deed_of command = deed_at (facts_of_tables t (Some stamp.maker)) (shown_in_tables t) stamp command
 
-  abbrev named_paper : Option ℕ → NamedPaper
-  named_paper paper = paper_named (facts_of_tables t (Some stamp.maker)) (shown_in_tables t) paper
+  -- one entry, which tells the command
+  abbrev TellsRow : Command → List Entry → Type 0
+  TellsRow command (e ∷ []) = (is_of_row e ≡ true) × (paper_command_told t e ≡ Some command)
+  TellsRow command entries = ⊥
 
-  abbrev named_user : Option ℕ → Option ℕ → Option Target
-  named_user paper target =
-      target_named (facts_of_tables t (Some stamp.maker)) (shown_in_tables t) (Some stamp.maker) paper target
+  -- whether the rules on this paper miss the user named
+  abbrev pub misses : ℕ → Option ℕ → Bool
+  misses p target =
+      is_none (target_named (facts_of_tables t (Some stamp.maker)) (shown_in_tables t) (Some stamp.maker) (Some p)
+      target)
 
-  -- A command that names a user on a paper, with its rules, which want both to be there, and with what it draws: one
-  -- entry, which tells the command.
-  record OnPaper : Type 0 where
-    made : Option ℕ → Option (List ℕ) → Command
-    entry : ℕ → ℕ → Entry
-    checks : Option ℕ → Option ℕ → List Check
-    draws : Option ℕ → Option ℕ → Drawn
-    judges : (paper : Option ℕ) (name : Option (List ℕ))
-        → judge_by_role t (call_by stamp (made paper name)) ≡ judged (checks paper (found name))
-        (draws paper (found name))
-    no_paper : (target : Option ℕ) → NoneBroken (checks None target) → ⊥
-    no_user : (p : ℕ) → NoneBroken (checks (Some p) None) → ⊥
-    group : (p v : ℕ) → (draws (Some p) (Some v)).group ≡ grouped stamp (entry p v ∷ [])
-    of_row : (p v : ℕ) → is_of_row (entry p v) ≡ true
-    tells : (p v : ℕ) → paper_command_told t (entry p v) ≡ option_map (λ (n : List ℕ). made (Some p) (Some n))
-        (name_told t v)
+  -- such a command, where no rule is broken, does
+  pub row-tells : (command : Command) → IsRowCommand command → NoneBroken (deed_of command).checks
+      → ((deed_of command).maker ≡ stamp.maker) × TellsRow command (deed_of command).entries
+  row-tells (SetConflict None name on) of_row none = absurd (true≢false none.0)
+  row-tells (SetConflict (Some p) name on) of_row none = (
+    refl,
+    (
+      refl,
+      found-tells t name (λ n. SetConflict (Some p) n on)
+          (λ v. paper_command_told t (Conflict p (unwrap_or v 0) on)) (misses p) refl (λ v. refl) none.1.0,
+    ),
+  )
+  row-tells (Assign None name kind) of_row none = absurd (true≢false none.0)
+  row-tells (Assign (Some p) name kind) of_row none = (
+    refl,
+    (
+      refl,
+      found-tells t name (λ n. Assign (Some p) n kind)
+          (λ v. paper_command_told t (Assigned p (unwrap_or v 0) kind (labels_in t.seats p + 1))) (misses p) refl (λ v. refl)
+          none.1.0,
+    ),
+  )
+  row-tells (Unassign None name) of_row none = absurd (true≢false none.0)
+  row-tells (Unassign (Some p) name) of_row none = (
+    refl,
+    (
+      refl,
+      found-tells t name (λ n. Unassign (Some p) n)
+          (λ v. paper_command_told t (Unassigned p (unwrap_or v 0) (unwrap_or (ordinal_in t.seats v p) 0))) (misses p) refl
+          (λ v. refl) none.1.0,
+    ),
+  )
+  row-tells (Tag None tag on) of_row none = absurd (true≢false none.0)
+  row-tells (Tag (Some p) tag on) of_row none = (refl, (refl, refl))
+  row-tells command of_row none = absurd of_row
 
-  module _ (drawn : Drawn) where
-    on-paper : (c : OnPaper) (paper : Option ℕ) (name : Option (List ℕ))
-        → judge_by_role t (call_by stamp (c.made paper name)) ≡ Ok drawn
-        → AddsOne t stamp (c.made paper name) drawn
-    on-paper c paper name accepted =
-        by paper name (judged-Ok (c.checks paper (found name)) (c.draws paper (found name)) drawn
-        (sym (c.judges paper name) ∙ accepted))
-      where
-        of_user : (p : ℕ) (name : List ℕ) (target : Option ℕ) → found (Some name) ≡ target
-            → NoneBroken (c.checks (Some p) target) × (c.draws (Some p) target ≡ drawn)
-            → AddsOne t stamp (c.made (Some p) (Some name)) drawn
-        of_user p name None is kept = absurd (c.no_user p kept.0)
-        of_user p name (Some v) is kept = record {
-          entry = c.entry p v;
-          group_is = ap (λ (d : Drawn). d.group) (sym kept.1) ∙ c.group p v;
-          of_row = c.of_row p v;
-          told = c.tells p v ∙ ap (option_map (λ (n : List ℕ). c.made (Some p) (Some n)))
-              (named t name v (sym (number_in-lines_of t.accounts name) ∙ is));
-        }
-
-        by : (paper : Option ℕ) (name : Option (List ℕ)) → NoneBroken (c.checks paper (found name))
-            × (c.draws paper (found name) ≡ drawn)
-            → AddsOne t stamp (c.made paper name) drawn
-        by None name kept = absurd (c.no_paper (found name) kept.0)
-        by (Some p) None kept = absurd (c.no_user p kept.0)
-        by (Some p) (Some name) kept = of_user p name (found (Some name)) refl kept
-
-    abbrev conflict : Bool → OnPaper
-    conflict on = record {
-      made = λ paper name. SetConflict paper name on;
-      entry = λ p v. Conflict p v on;
-      checks = λ paper target. conflict_checks (standing_at t (Some stamp.maker) paper) (named_paper paper)
-          (named_user paper target) on (is_late (facts_of_tables t (Some stamp.maker)) stamp.at);
-      draws = λ paper target. conflict_drawn stamp (unwrap_or paper 0) (unwrap_or target 0) on;
-      judges = λ paper name. refl;
-      no_paper = λ target none. true≢false none.0;
-      no_user = λ p none. true≢false none.1.0;
-      group = λ p v. refl;
-      of_row = λ p v. refl;
-      tells = λ p v. refl;
-    }
-
-    abbrev labels : Option ℕ → ℕ
-    labels paper = labels_in t.seats (unwrap_or paper 0)
-
-    abbrev assignment : Kind → OnPaper
-    assignment kind = record {
-      made = λ paper name. Assign paper name kind;
-      entry = λ p v. Assigned p v kind (labels (Some p) + 1);
-      checks = λ paper target. assign_checks (standing_at t (Some stamp.maker) paper) (named_paper paper)
-          (named_user paper target) (labels paper);
-      draws = λ paper target. assignment_drawn stamp (unwrap_or paper 0) (unwrap_or target 0) kind (labels paper + 1);
-      judges = λ paper name. refl;
-      no_paper = λ target none. true≢false none.0;
-      no_user = λ p none. true≢false none.1.0;
-      group = λ p v. refl;
-      of_row = λ p v. refl;
-      tells = λ p v. refl;
-    }
-
-    abbrev seat : Option ℕ → Option ℕ → Option ℕ
-    seat paper target = ordinal_in t.seats target (unwrap_or paper 0)
-
-    abbrev written : Option ℕ → Option ℕ → Bool
-    written paper target = at_some (is_written_in t.reviews (unwrap_or paper 0)) (seat paper target)
-
-    abbrev unassignment : OnPaper
-    unassignment = record {
-      made = Unassign;
-      entry = λ p v. Unassigned p v (unwrap_or (seat (Some p) (Some v)) 0);
-      checks = λ paper target. unassign_checks (standing_at t (Some stamp.maker) paper) (named_paper paper)
-          (named_user paper target) (written paper target);
-      draws = λ paper target. unassignment_drawn stamp (unwrap_or paper 0) (unwrap_or target 0)
-          (unwrap_or (seat paper target) 0);
-      judges = λ paper name. refl;
-      no_paper = λ target none. true≢false none.0;
-      no_user = λ p none. true≢false none.1.0;
-      group = λ p v. refl;
-      of_row = λ p v. refl;
-      tells = λ p v. refl;
-    }
-
-    tag-adds : (paper : Option ℕ) (tag : List ℕ) (on : Bool)
-        → judge_by_role t (call_by stamp (Tag paper tag on)) ≡ Ok drawn
-        → AddsOne t stamp (Tag paper tag on) drawn
-    tag-adds paper tag on accepted =
-        by paper
-        (judged-Ok (tag_checks (standing_at t (Some stamp.maker) paper) (named_paper paper) (is_for_chairs tag))
-        (tag_drawn stamp (unwrap_or paper 0) tag on) drawn accepted)
-      where
-        by : (paper : Option ℕ)
-            → NoneBroken (tag_checks (standing_at t (Some stamp.maker) paper) (named_paper paper) (is_for_chairs tag))
-            × (tag_drawn stamp (unwrap_or paper 0) tag on ≡ drawn)
-            → AddsOne t stamp (Tag paper tag on) drawn
-        by None kept = absurd (true≢false kept.0.0)
-        by (Some p) kept = record {
-          entry = Tagged p tag on;
-          group_is = ap (λ (d : Drawn). d.group) (sym kept.1);
-          of_row = refl;
-          told = refl;
-        }
-
-    -- where such a command is accepted it adds one entry, which tells it
-    pub row-adds : (command : Command) → IsRowCommand command → judge_by_role t (call_by stamp command) ≡ Ok drawn
-        → AddsOne t stamp command drawn
-    row-adds (SetConflict paper name on) of_row accepted = on-paper (conflict on) paper name accepted
-    row-adds (Assign paper name kind) of_row accepted = on-paper (assignment kind) paper name accepted
-    row-adds (Unassign paper name) of_row accepted = on-paper unassignment paper name accepted
-    row-adds (Tag paper tag on) of_row accepted = tag-adds paper tag on accepted
-    row-adds command of_row accepted = absurd of_row
+  -- where such a command is accepted it adds one entry, which tells it
+  pub row-adds : (drawn : Drawn) (command : Command) → IsRowCommand command
+      → judge_by_role t (call_by stamp command) ≡ Ok drawn → AddsOne t stamp command drawn
+  row-adds drawn command of_row accepted =
+      let d : Deed = deed_of command in
+      let k = judged-Ok d.checks (drawn_by stamp d) drawn accepted in
+      let tells = row-tells command of_row k.0 in
+      by d.entries (sym (ap (λ (x : Drawn). x.group) k.1)
+      ∙ ap (λ (m : ℕ). grouped (record stamp { maker = m }) d.entries) tells.0) tells.1
+    where
+      by : (es : List Entry) → drawn.group ≡ grouped stamp es → TellsRow command es → AddsOne t stamp command drawn
+      by [] is tells = absurd tells
+      by (e ∷ []) is tells = record { entry = e; group_is = is; of_row = tells.0; told = tells.1 }
+      by (e ∷ next ∷ es) is tells = absurd tells
