@@ -60,7 +60,7 @@ use Rattle.cr_history.specs.Invariants.{IsRegistered}
 use Rattle.cr_policy.specs.View.{view}
 use Rattle.cr_policy.proofs.AcceptedLaws.{key-given}
 use Rattle.cr_policy.proofs.LegalLaws.{Legal-judge}
-use Rattle.cr_book.proofs.OpeningRowCommands.{deed_of, misses, row-adds, row-tells}
+use Rattle.cr_book.proofs.OpeningRowCommands.{deed_of, accepted-deed, misses, row-adds, row-tells}
 use Rattle.cr_book.proofs.OpeningRows.{bounded-stamp}
 use Rattle.cr_book.specs.BulkRebuilding.{is_of_row, IsDrawn}
 use Rattle.cr_book.specs.Rebuilding.{name_told, call_given, command_told, paper_command_told, user_command_told}
@@ -208,7 +208,7 @@ module _ (t : Tables) (rows : List Row) (drawn : Drawn) (begins : take (length r
       → judge_by_role t (call_by stamp command) ≡ Ok drawn → ToldByRows t rows drawn
   one-told stamp known command one accepted =
       let d : Deed = deed_of t stamp command in
-      let k = judged-Ok d.checks (drawn_by stamp d) drawn accepted in
+      let k = accepted-deed t stamp command drawn accepted in
       let tells = deed-tells t authors stamp command one k.0 in
       by d.entries (sym (ap (λ (x : Drawn). x.group) k.1)
       ∙ ap (λ (m : ℕ). grouped (record stamp { maker = m }) d.entries) tells.0) tells.1

@@ -1,7 +1,7 @@
 -- Behind the rows of a bulk one more is always accepted: a tag on the paper of the first.
 use Rattle.std.proofs.Common.{ℕ, Bool, true, false, cond, ◌≡◌, ◌≤◌, List, [], ◌∷◌, ◌++◌, eqb, refl, sym, ap, subst, ◌∙◌}
 use Rattle.std.proofs.Common.{arith, ◌||◌, ◌&&◌, Option, Some, None, Result, Ok, Err}
-use Rattle.std.specs.Prelude.{is_none, is_some, is_ok, not, unwrap_or, ◌+◌}
+use Rattle.std.specs.Prelude.{is_none, is_some, is_ok, not, unwrap_or}
 use Rattle.std.specs.List.{list_any}
 use Rattle.std.specs.Option.{option_map}
 use Rattle.std.proofs.lemmas.Bool.{and_parts, true≢false}
@@ -15,25 +15,23 @@ use Rattle.cr_base.specs.declared.pairs.Order.TheVariants.{ByPaper}
 use Rattle.cr_base.specs.declared.reply.Rule.{Rule}
 use Rattle.cr_base.specs.declared.standing.Standing.{Standing}
 use Rattle.cr_base.specs.declared.target.Target.{Target}
-use Rattle.cr_base.specs.declared.words.Kind.{Kind}
 use Rattle.cr_base.specs.declared.words.Role.{Role}
 use Rattle.cr_base.specs.declared.words.Role.TheVariants as roles
 use Rattle.cr_base.specs.Accounts.{lines_of, role_in}
 use Rattle.cr_base.specs.Bulk.{bulk_checks, turns_own_conflict, entries_of}
 use Rattle.cr_base.specs.Calls.{call_by}
-use Rattle.cr_base.specs.Checks.{NamedPaper, about, conflict_case, own_checks, other_checks, conflict_checks}
-use Rattle.cr_base.specs.Checks.{assign_checks, unassign_checks, tag_checks}
-use Rattle.cr_base.specs.Drawn.{Drawn, conflict_drawn, assignment_drawn, unassignment_drawn, tag_drawn}
+use Rattle.cr_base.specs.Checks.{about, conflict_case, own_checks, other_checks}
+use Rattle.cr_base.specs.Deeds.{drawn_by}
+use Rattle.cr_base.specs.Drawn.{Drawn, alone}
 use Rattle.cr_base.specs.Invites.{is_invited_in}
 use Rattle.cr_base.specs.Judging.{judge_by_role}
-use Rattle.cr_base.specs.Lists.{is_number, at_some}
+use Rattle.cr_base.specs.Lists.{is_number}
 use Rattle.cr_base.specs.Pairs.{has_pair, same_pair, users_tied_to}
 use Rattle.cr_base.specs.Papers.{paper_numbers, is_withdrawn_at}
 use Rattle.cr_base.specs.Phases.{committee_works, authors_have_declared, conflicts_are_final}
-use Rattle.cr_base.specs.Reviews.{is_written_in}
 use Rattle.cr_base.specs.Rows.{IsBoundedEntry}
-use Rattle.cr_base.specs.Seats.{labels_in, ordinal_in}
-use Rattle.cr_base.specs.Sources.{facts_of_tables, is_late, shown_in_tables, standing_at, paper_named, target_named}
+use Rattle.cr_base.specs.Seats.{ordinal_in}
+use Rattle.cr_base.specs.Sources.{facts_of_tables, is_late, standing_at}
 use Rattle.cr_base.specs.Sources.{role_among, user_among}
 use Rattle.cr_base.specs.TagTexts.{is_for_chairs}
 use Rattle.cr_base.specs.Tables.{Tables, tables_after}
@@ -44,6 +42,7 @@ use Rattle.cr_base.proofs.PairLaws.{has_pair-with_tie, has_pair-without_pair}
 use Rattle.cr_judge.specs.Rows.{row_judged_at}
 use Rattle.cr_book.specs.Rebuilding.{name_told, is_known}
 use Rattle.cr_book.specs.BulkRebuilding.{is_of_row, unfinished, IsDrawn, AreDrawn, caller_judged, may_bulk}
+use Rattle.cr_book.proofs.OpeningRowCommands.{deed_of, accepted-deed, misses}
 use Rattle.cr_book.proofs.OpeningBulks.{row-judges, with-name, some_is, none_some, told-of_row}
 
 -- ---- a chair and a paper
@@ -107,33 +106,18 @@ case-clear true true false by withdrawn target late from before other none =
     (k.1.0, k.1.1.0)
 
 module _ (t : Tables) (stamp : Stamp) (work : IsAtWork t stamp.maker) where
-  abbrev stands : Option ℕ → Standing
-  stands paper = standing_at t (Some stamp.maker) paper
-
-  abbrev named : Option ℕ → NamedPaper
-  named paper = paper_named (facts_of_tables t (Some stamp.maker)) (shown_in_tables t) paper
-
-  abbrev late : Bool
-  late = is_late (facts_of_tables t (Some stamp.maker)) stamp.at
-
-  abbrev target_of : ℕ → Option ℕ → Option Target
-  target_of p target =
-      target_named (facts_of_tables t (Some stamp.maker)) (shown_in_tables t) (Some stamp.maker) (Some p) target
-
-  conflict-clear : (p : ℕ) (name : List ℕ) (on : Bool) (drawn : Drawn)
-      → turns_own_conflict (facts_of_tables t (Some stamp.maker)) stamp.maker (SetConflict (Some p) (Some name) on)
-      ≡ false
-      → judge_by_role t (call_by stamp (SetConflict (Some p) (Some name) on)) ≡ Ok drawn → IsClear t stamp.maker p
-  conflict-clear p name on drawn other accepted =
-      let target : Option ℕ = user_among (lines_of t.accounts) (Some name) in
-      let k = judged-Ok (conflict_checks (stands (Some p)) (named (Some p)) (target_of p target) on late)
-      (conflict_drawn stamp p (unwrap_or target 0) on) drawn accepted in
-      let both = by (role_among (lines_of t.accounts) target) k.0.1.0 k.0.1.1 in
-      record { there = k.0.0; clear = both.0; standing = both.1 }
+  conflict-clear : (p : ℕ) (name : Option (List ℕ)) (on : Bool)
+      → turns_own_conflict (facts_of_tables t (Some stamp.maker)) stamp.maker (SetConflict (Some p) name on) ≡ false
+      → NoneBroken (deed_of t stamp (SetConflict (Some p) name on)).checks → IsClear t stamp.maker p
+  conflict-clear p name on other none =
+      let both = by (role_among (lines_of t.accounts) target) none.1.0 none.1.1 in
+      record { there = none.0; clear = both.0; standing = both.1 }
     where
+      target : Option ℕ
+      target = user_among (lines_of t.accounts) name
+
       asked : Role → Target
       asked role =
-          let target : Option ℕ = user_among (lines_of t.accounts) (Some name) in
           let wrote : Bool = list_any (is_number target) (authors_in t.ties p) in
           let declared : Bool = list_any (is_number target) (users_tied_to p t.ties.conflicts) in
           record {
@@ -145,51 +129,30 @@ module _ (t : Tables) (stamp : Stamp) (work : IsAtWork t stamp.maker) where
             external = not (is_member role) && is_invited_in t.invites target p;
           }
 
+      stands : Standing
+      stands = standing_at t (Some stamp.maker) (Some p)
+
+      late : Bool
+      late = is_late (facts_of_tables t (Some stamp.maker)) stamp.at
+
       phases : (authors_have_declared t.stage.phase ≡ true) × (conflicts_are_final t.stage.phase ≡ false)
       phases = committee (authors_have_declared t.stage.phase) (conflicts_are_final t.stage.phase) work.phase
 
       by : (role : Option Role) → is_none (option_map asked role) ≡ false
           → NoneBroken (about (option_map asked role)
           (λ (user : Target). conflict_case on (authors_have_declared t.stage.phase)
-          (conflicts_are_final t.stage.phase) (stands (Some p)) (is_withdrawn_at t.papers p) user late))
+          (conflicts_are_final t.stage.phase) stands (is_withdrawn_at t.papers p) user late))
           → (is_conflicted_in t.ties (Some stamp.maker) p ≡ false) × (is_withdrawn_at t.papers p ≡ false)
       by None there none = absurd (true≢false there)
       by (Some role) there none =
-          case-clear on (authors_have_declared t.stage.phase) (conflicts_are_final t.stage.phase) (stands (Some p))
+          case-clear on (authors_have_declared t.stage.phase) (conflicts_are_final t.stage.phase) stands
           (is_withdrawn_at t.papers p) (asked role) late phases.0 phases.1 other none
-
-  assign-clear : (p : ℕ) (name : List ℕ) (kind : Kind) (drawn : Drawn)
-      → judge_by_role t (call_by stamp (Assign (Some p) (Some name) kind)) ≡ Ok drawn → IsClear t stamp.maker p
-  assign-clear p name kind drawn accepted =
-      let target : Option ℕ = user_among (lines_of t.accounts) (Some name) in
-      let labels : ℕ = labels_in t.seats p in
-      let k = judged-Ok (assign_checks (stands (Some p)) (named (Some p)) (target_of p target) labels)
-      (assignment_drawn stamp p (unwrap_or target 0) kind (labels + 1)) drawn accepted in
-      record { there = k.0.0; clear = k.0.1.1.1.0; standing = k.0.1.1.1.1.1.0 }
-
-  unassign-clear : (p : ℕ) (name : List ℕ) (drawn : Drawn)
-      → judge_by_role t (call_by stamp (Unassign (Some p) (Some name))) ≡ Ok drawn → IsClear t stamp.maker p
-  unassign-clear p name drawn accepted =
-      let target : Option ℕ = user_among (lines_of t.accounts) (Some name) in
-      let seat : Option ℕ = ordinal_in t.seats target p in
-      let k =
-      judged-Ok (unassign_checks (stands (Some p)) (named (Some p)) (target_of p target)
-      (at_some (is_written_in t.reviews p) seat))
-      (unassignment_drawn stamp p (unwrap_or target 0) (unwrap_or seat 0)) drawn accepted in
-      record { there = k.0.0; clear = k.0.1.1.1.0; standing = k.0.1.1.1.1.1.0 }
-
-  tag-clear : (p : ℕ) (tag : List ℕ) (on : Bool) (drawn : Drawn)
-      → judge_by_role t (call_by stamp (Tag (Some p) tag on)) ≡ Ok drawn → IsClear t stamp.maker p
-  tag-clear p tag on drawn accepted =
-      let k = judged-Ok (tag_checks (stands (Some p)) (named (Some p)) (is_for_chairs tag)) (tag_drawn stamp p tag on)
-      drawn accepted in
-      record { there = k.0.0; clear = k.0.1.1.1.0; standing = k.0.1.1.1.1.1.0 }
 
   -- and such a paper she may tag
   tag-accepted : (p : ℕ) (tag : List ℕ) (on : Bool) → IsClear t stamp.maker p
-      → judge_by_role t (call_by stamp (Tag (Some p) tag on)) ≡ Ok (tag_drawn stamp p tag on)
+      → judge_by_role t (call_by stamp (Tag (Some p) tag on)) ≡ Ok (alone stamp (Tagged p tag on))
   tag-accepted p tag on c =
-      judged-none (tag_checks (stands (Some p)) (named (Some p)) (is_for_chairs tag)) (tag_drawn stamp p tag on) (
+      judged-none (deed_of t stamp (Tag (Some p) tag on)).checks (alone stamp (Tagged p tag on)) (
         c.there,
         (
           not-for (is_for_chairs tag) (is_chair (role_in t.accounts (Some stamp.maker))) work.chair,
@@ -207,47 +170,62 @@ pub record OnClear (t : Tables) (user : ℕ) : Type 0 where
   pub high : paper ≤ 9999
   pub clear : IsClear t user paper
 
+-- what is known of a row's command that adds the entry: no rule of its deed is broken, and it adds that entry
+record Deeded (t : Tables) (stamp : Stamp) (e : Entry) (command : Command) : Type 0 where
+  other : turns_own_conflict (facts_of_tables t (Some stamp.maker)) stamp.maker command ≡ false
+  none : NoneBroken (deed_of t stamp command).checks
+  adds : entries_of (drawn_by stamp (deed_of t stamp command)).group ≡ e ∷ []
+
+deeded : (t : Tables) (stamp : Stamp) (e : Entry) (d : IsDrawn t stamp e) (command : Command) → command ≡ d.command
+    → Deeded t stamp e command
+deeded t stamp e d command is =
+    let k = row-judges t stamp command d.drawn (ap (λ (c : Command). row_judged_at t stamp c) is ∙ d.accepted) in
+    let deed = accepted-deed t stamp command d.drawn k.1 in
+    record { other = k.0; none = deed.0; adds = ap (λ (x : Drawn). entries_of x.group) deed.1 ∙ d.adds }
+
+-- and of one that turns the conflict of a user
+conflict-deeded : (t : Tables) (stamp : Stamp) (p v : ℕ) (on : Bool) → IsDrawn t stamp (Conflict p v on)
+    → (name : List ℕ) × Deeded t stamp (Conflict p v on) (SetConflict (Some p) (Some name) on)
+conflict-deeded t stamp p v on d =
+    let name = with-name (name_told t v) (λ name. SetConflict (Some p) (Some name) on) d.command d.told in
+    (name.0, deeded t stamp (Conflict p v on) d (SetConflict (Some p) (Some name.0) on) name.2)
+
 pub drawn-clear : (t : Tables) (stamp : Stamp) (e : Entry) → may_bulk t stamp.maker ≡ true
     → IsBoundedEntry (unfinished stamp e) → IsDrawn t stamp e → OnClear t stamp.maker
 drawn-clear t stamp (Conflict p v on) may bounded d =
-    let name = with-name (name_told t v) (λ name. SetConflict (Some p) (Some name) on) d.command d.told in
-    let k = row-judges t stamp (SetConflict (Some p) (Some name.0) on) d.drawn
-    (ap (λ (c : Command). row_judged_at t stamp c) name.2 ∙ d.accepted) in
+    let k = conflict-deeded t stamp p v on d in
     record {
       paper = p;
       low = bounded.n1.0;
       high = bounded.n1.1;
-      clear = conflict-clear t stamp (at-work t stamp.maker may) p name.0 on d.drawn k.0 k.1;
+      clear = conflict-clear t stamp (at-work t stamp.maker may) p (Some k.0) on k.1.other k.1.none;
     }
 drawn-clear t stamp (Assigned p v kind ordinal) may bounded d =
     let name = with-name (name_told t v) (λ name. Assign (Some p) (Some name) kind) d.command d.told in
-    let k = row-judges t stamp (Assign (Some p) (Some name.0) kind) d.drawn
-    (ap (λ (c : Command). row_judged_at t stamp c) name.2 ∙ d.accepted) in
+    let none = (deeded t stamp _ d (Assign (Some p) (Some name.0) kind) name.2).none in
     record {
       paper = p;
       low = bounded.n1.0;
       high = bounded.n1.1;
-      clear = assign-clear t stamp (at-work t stamp.maker may) p name.0 kind d.drawn k.1;
+      clear = record { there = none.0; clear = none.1.1.1.0; standing = none.1.1.1.1.1.0 };
     }
 drawn-clear t stamp (Unassigned p v ordinal) may bounded d =
     let name = with-name (name_told t v) (λ name. Unassign (Some p) (Some name)) d.command d.told in
-    let k = row-judges t stamp (Unassign (Some p) (Some name.0)) d.drawn
-    (ap (λ (c : Command). row_judged_at t stamp c) name.2 ∙ d.accepted) in
+    let none = (deeded t stamp _ d (Unassign (Some p) (Some name.0)) name.2).none in
     record {
       paper = p;
       low = bounded.n1.0;
       high = bounded.n1.1;
-      clear = unassign-clear t stamp (at-work t stamp.maker may) p name.0 d.drawn k.1;
+      clear = record { there = none.0; clear = none.1.1.1.0; standing = none.1.1.1.1.1.0 };
     }
 drawn-clear t stamp (Tagged p tag on) may bounded d =
-    let same = some_is (Tag (Some p) tag on) d.command d.told in
-    let k = row-judges t stamp (Tag (Some p) tag on) d.drawn
-    (ap (λ (c : Command). row_judged_at t stamp c) same ∙ d.accepted) in
+    let none =
+    (deeded t stamp _ d (Tag (Some p) tag on) (some_is (Tag (Some p) tag on) d.command d.told)).none in
     record {
       paper = p;
       low = bounded.n1.0;
       high = bounded.n1.1;
-      clear = tag-clear t stamp (at-work t stamp.maker may) p tag on d.drawn k.1;
+      clear = record { there = none.0; clear = none.1.1.1.0; standing = none.1.1.1.1.1.0 };
     }
 drawn-clear t stamp e may bounded d = absurd (none_some d.command d.told)
 
@@ -257,42 +235,17 @@ drawn-clear t stamp e may bounded d = absurd (none_some d.command d.told)
 other-user : (t : Tables) (stamp : Stamp) (p v : ℕ) (on : Bool) → IsDrawn t stamp (Conflict p v on)
     → eqb v stamp.maker ≡ false
 other-user t stamp p v on d =
-    by target refl
-    (judged-Ok
-    (conflict_checks _ _ (target_named (facts_of_tables t (Some stamp.maker)) (shown_in_tables t) (Some stamp.maker)
-    (Some p) target) on _) (conflict_drawn stamp p (unwrap_or target 0) on) d.drawn k.1)
+    let k = conflict-deeded t stamp p v on d in
+    let target : Option ℕ = user_among (lines_of t.accounts) (Some k.0) in
+    by target k.1.none.1.0 k.1.other (conflict_is (unwrap_or target 0) k.1.adds)
   where
-    name : (name : List ℕ) × (name_told t v ≡ Some name) × (SetConflict (Some p) (Some name) on ≡ d.command)
-    name = with-name (name_told t v) (λ name. SetConflict (Some p) (Some name) on) d.command d.told
-
-    target : Option ℕ
-    target = user_among (lines_of t.accounts) (Some name.0)
-
-    k : (is_number target stamp.maker ≡ false)
-        × (judge_by_role t (call_by stamp (SetConflict (Some p) (Some name.0) on)) ≡ Ok d.drawn)
-    k = row-judges t stamp (SetConflict (Some p) (Some name.0) on) d.drawn
-        (ap (λ (c : Command). row_judged_at t stamp c) name.2 ∙ d.accepted)
-
     conflict_is : (w : ℕ) → Conflict p w on ∷ [] ≡ Conflict p v on ∷ [] → w ≡ v
     conflict_is w e = cc (e)
 
-    by : (o : Option ℕ) → target ≡ o → NoneBroken
-        (conflict_checks (standing_at t (Some stamp.maker) (Some p))
-        (paper_named (facts_of_tables t (Some stamp.maker)) (shown_in_tables t) (Some p))
-        (target_named (facts_of_tables t (Some stamp.maker)) (shown_in_tables t) (Some stamp.maker) (Some p) target) on
-        (is_late (facts_of_tables t (Some stamp.maker)) stamp.at))
-        × (conflict_drawn stamp p (unwrap_or target 0) on ≡ d.drawn) → eqb v stamp.maker ≡ false
-    by None is kept =
-        absurd
-        (true≢false
-        (ap
-        (λ (o : Option ℕ). is_none (target_named (facts_of_tables t (Some stamp.maker)) (shown_in_tables t)
-        (Some stamp.maker) (Some p) o)) (sym is) ∙ kept.0.1.0))
-    by (Some w) is kept =
-        let same : w ≡ v =
-        conflict_is w (ap (λ (o : Option ℕ). entries_of (conflict_drawn stamp p (unwrap_or o 0) on).group) (sym is)
-        ∙ ap (λ (d : Drawn). entries_of d.group) kept.1 ∙ d.adds) in
-        ap (λ (n : ℕ). eqb n stamp.maker) (sym same) ∙ ap (λ (o : Option ℕ). is_number o stamp.maker) (sym is) ∙ k.0
+    by : (target : Option ℕ) → misses t stamp p target ≡ false → is_number target stamp.maker ≡ false
+        → unwrap_or target 0 ≡ v → eqb v stamp.maker ≡ false
+    by None there other same = absurd (true≢false there)
+    by (Some w) there other same = ap (λ (n : ℕ). eqb n stamp.maker) (sym same) ∙ other
 
 either : (a b : Bool) → (a || b) ≡ false → (a ≡ false) × (b ≡ false)
 either true b h = absurd (true≢false h)
@@ -350,7 +303,7 @@ tag-next t stamp [] p tag on may c drawn = (
   record {
     command = Tag (Some p) tag on;
     told = refl;
-    drawn = tag_drawn stamp p tag on;
+    drawn = alone stamp (Tagged p tag on);
     accepted = tag-accepted t stamp (at-work t stamp.maker may) p tag on c;
     adds = refl;
   },

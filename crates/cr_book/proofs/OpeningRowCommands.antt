@@ -6,15 +6,14 @@ use Rattle.std.proofs.lemmas.Bool.{true≢false}
 use Rattle.cr_base.specs.declared.command.Command.{Command}
 use Rattle.cr_base.specs.declared.command.Command.TheVariants.{SetConflict, Assign, Unassign, Tag}
 use Rattle.cr_base.specs.declared.entry.Entry.{Entry}
-use Rattle.cr_base.specs.declared.entry.Entry.TheVariants.{Conflict, Assigned, Unassigned, Tagged}
+use Rattle.cr_base.specs.declared.entry.Entry.TheVariants.{Conflict, Assigned, Unassigned}
 use Rattle.cr_base.specs.declared.entry.Stamp.{Stamp}
-use Rattle.cr_base.specs.Accounts.{lines_of}
 use Rattle.cr_base.specs.Calls.{call_by}
 use Rattle.cr_base.specs.Deeds.{Deed, deed_at, drawn_by}
 use Rattle.cr_base.specs.Drawn.{Drawn, grouped}
 use Rattle.cr_base.specs.Judging.{judge_by_role}
 use Rattle.cr_base.specs.Seats.{labels_in, ordinal_in}
-use Rattle.cr_base.specs.Sources.{target_named, user_among, facts_of_tables, shown_in_tables}
+use Rattle.cr_base.specs.Sources.{target_named, facts_of_tables, shown_in_tables}
 use Rattle.cr_base.specs.Tables.{Tables}
 use Rattle.cr_base.proofs.CheckLaws.{NoneBroken, judged-Ok}
 use Rattle.cr_book.specs.Rebuilding.{paper_command_told}
@@ -33,6 +32,12 @@ module _ (t : Tables) (stamp : Stamp) where
   -- what a command does, by the tables
   abbrev pub deed_of : Command → Deed
   deed_of command = deed_at (facts_of_tables t (Some stamp.maker)) (shown_in_tables t) stamp command
+
+  -- where it is accepted, no rule of its deed is broken, and what the deed draws is drawn
+  pub accepted-deed : (command : Command) (drawn : Drawn) → judge_by_role t (call_by stamp command) ≡ Ok drawn
+      → NoneBroken (deed_of command).checks × (drawn_by stamp (deed_of command) ≡ drawn)
+  accepted-deed command drawn accepted =
+      judged-Ok (deed_of command).checks (drawn_by stamp (deed_of command)) drawn accepted
 
   -- one entry, which tells the command
   abbrev TellsRow : Command → List Entry → Type 0
@@ -86,7 +91,7 @@ module _ (t : Tables) (stamp : Stamp) where
       → judge_by_role t (call_by stamp command) ≡ Ok drawn → AddsOne t stamp command drawn
   row-adds drawn command of_row accepted =
       let d : Deed = deed_of command in
-      let k = judged-Ok d.checks (drawn_by stamp d) drawn accepted in
+      let k = accepted-deed command drawn accepted in
       let tells = row-tells command of_row k.0 in
       by d.entries (sym (ap (λ (x : Drawn). x.group) k.1)
       ∙ ap (λ (m : ℕ). grouped (record stamp { maker = m }) d.entries) tells.0) tells.1
