@@ -22,12 +22,12 @@ use Rattle.cr_base.specs.HistoryFacts.{role_of}
 use Rattle.cr_base.specs.History.{History, Registration, all_told, registration_told}
 use Rattle.cr_base.specs.Judging.{judge_by_role}
 use Rattle.cr_base.specs.Calls.{call_by}
-use Rattle.cr_base.specs.Drawn.{Drawn, besides, stamped, grouped, submission_drawn}
+use Rattle.cr_base.specs.Deeds.{drawn_by}
+use Rattle.cr_base.specs.Drawn.{Drawn, besides, stamped, grouped}
 use Rattle.cr_base.specs.Lists.{is_nothing, listed}
-use Rattle.cr_base.specs.Sources.{Facts, is_late, users_among}
-use Rattle.cr_base.specs.Sources.{facts_of_tables}
-use Rattle.cr_base.specs.Checks.{judged, submit_checks}
-use Rattle.cr_base.proofs.CheckLaws.{judged-Ok, judged-none}
+use Rattle.cr_base.specs.Sources.{facts_of_tables, users_among}
+use Rattle.cr_base.proofs.CheckLaws.{NoneBroken, judged-none}
+use Rattle.cr_book.proofs.OpeningRowCommands.{deed_of, accepted-deed}
 use Rattle.cr_book.proofs.OpeningAuthors.{new-besides, found-back, none-missing, all-listed, coauthors, grouped-cons}
 use Rattle.cr_book.proofs.OpeningAuthors.{numbers, begin-first, told-first, open-rest, same-begin, IsNumber}
 use Rattle.cr_book.proofs.OpeningAuthors.{bounded-numbers, Rebuilt, rebuilt, Become, become}
@@ -101,36 +101,8 @@ told-judged t authors first call judged told known is =
 
 module _ (t : Tables) (once : AreNamedOnce t.accounts) (stamp : Stamp) (known : is_known t (Some stamp.maker) ≡ true)
     (drawn : Drawn) where
-  abbrev facts : Facts
-  facts = facts_of_tables t (Some stamp.maker)
-
   abbrev next_paper : ℕ
-  next_paper = length facts.papers + 1
-
-  -- what is judged of a submission whose co-authors these users are
-  abbrev judged_of : List ℕ → List ℕ → List (Option ℕ) → Result Drawn Rule
-  judged_of title abstract users =
-      judged (submit_checks (list_any is_none users) (facts.standing None) (length facts.papers) facts.own_papers
-      (is_late facts stamp.at)) (submission_drawn stamp next_paper title abstract (flat_map listed users))
-
-  -- where it is accepted with some, it is with any who are there
-  accepted-with : (title abstract : List ℕ) (users : List (Option ℕ)) (others : List ℕ)
-      → judged_of title abstract users ≡ Ok drawn
-      → judged_of title abstract (map (λ (u : ℕ). Some u) others)
-      ≡ Ok (submission_drawn stamp next_paper title abstract others)
-  accepted-with title abstract users others accepted =
-      let k =
-      judged-Ok (submit_checks (list_any is_none users) (facts.standing None) (length facts.papers) facts.own_papers
-      (is_late facts stamp.at)) (submission_drawn stamp next_paper title abstract (flat_map listed users)) drawn
-      accepted in
-      let some : List (Option ℕ) = map (λ (u : ℕ). Some u) others in
-      ap
-      (λ (us : List ℕ). judged (submit_checks (list_any is_none some) (facts.standing None) (length facts.papers)
-      facts.own_papers (is_late facts stamp.at)) (submission_drawn stamp next_paper title abstract us))
-      (all-listed others)
-      ∙ judged-none (submit_checks (list_any is_none some) (facts.standing None) (length facts.papers) facts.own_papers
-      (is_late facts stamp.at)) (submission_drawn stamp next_paper title abstract others)
-      (none-missing others, k.0.1)
+  next_paper = length (facts_of_tables t (Some stamp.maker)).papers + 1
 
   pub submission-told : (r : Row) (behind : List Row) (title abstract : List ℕ) (authors : List (Option (List ℕ)))
       → length authors ≤ 19
@@ -141,15 +113,17 @@ module _ (t : Tables) (once : AreNamedOnce t.accounts) (stamp : Stamp) (known : 
     first = first;
     rest = grouped stamp (coauthors next_paper users);
     group_is = group ∙ grouped-cons stamp e (coauthors next_paper users);
-    given = submission_drawn stamp next_paper title abstract others;
+    given = drawn_by stamp (deed_of t stamp (Submit title abstract names));
     told = told-judged t names first (call_by stamp (Submit title abstract names))
-        (Ok (submission_drawn stamp next_paper title abstract others))
+        (Ok (drawn_by stamp (deed_of t stamp (Submit title abstract names))))
         (ap (λ b. option_map (call_by stamp) (cond b (Some (Submit title abstract names)) None)) enough) known
-        (ap (judged_of title abstract) (ap (users_among (lines_of t.accounts)) back.names
-        ∙ found-back t others back.found)
-        ∙ accepted-with title abstract (users_among (lines_of t.accounts) authors) others accepted);
+        (judged-none (deed_of t stamp (Submit title abstract names)).checks
+        (drawn_by stamp (deed_of t stamp (Submit title abstract names)))
+        (ap (list_any is_none) there ∙ none-missing others, k.0.1));
     begins = ap (λ (us : List ℕ). take (length (r ∷ behind)) (rows_of (grouped stamp (e ∷ coauthors next_paper us))))
-        (new-besides (stamp.maker ∷ []) others back.new)
+        (ap (λ (us : List (Option ℕ)). besides (stamp.maker ∷ []) (flat_map listed us)) there
+        ∙ ap (besides (stamp.maker ∷ [])) (all-listed others)
+        ∙ new-besides (stamp.maker ∷ []) others back.new)
         ∙ same-begin stamp next_paper e users r behind rest.0 back.more begun rest.1 back.alike;
   }
     where
@@ -162,14 +136,12 @@ module _ (t : Tables) (once : AreNamedOnce t.accounts) (stamp : Stamp) (known : 
       first : Stamped
       first = stamped stamp (not (is_nothing (coauthors next_paper users))) e
 
+      k : NoneBroken (deed_of t stamp (Submit title abstract authors)).checks
+          × (drawn_by stamp (deed_of t stamp (Submit title abstract authors)) ≡ drawn)
+      k = accepted-deed t stamp (Submit title abstract authors) drawn accepted
+
       group : drawn.group ≡ grouped stamp (e ∷ coauthors next_paper users)
-      group =
-          sym
-          (ap (λ (d : Drawn). d.group)
-          (judged-Ok (submit_checks (list_any is_none (users_among (lines_of t.accounts) authors)) (facts.standing None)
-          (length facts.papers) facts.own_papers (is_late facts stamp.at))
-          (submission_drawn stamp next_paper title abstract
-          (flat_map listed (users_among (lines_of t.accounts) authors))) drawn accepted).1)
+      group = sym (ap (λ (d : Drawn). d.group) k.1)
 
       begun : take (length (r ∷ behind)) (rows_of (grouped stamp (e ∷ coauthors next_paper users))) ≡ r ∷ behind
       begun = ap (λ (g : History). take (length (r ∷ behind)) (rows_of g)) (sym group) ∙ begins
@@ -194,6 +166,10 @@ module _ (t : Tables) (once : AreNamedOnce t.accounts) (stamp : Stamp) (known : 
 
       names : List (Option (List ℕ))
       names = authors_told t stamp.maker (r ∷ behind)
+
+      -- the users whom they name are there
+      there : users_among (lines_of t.accounts) names ≡ map (λ (u : ℕ). Some u) others
+      there = ap (users_among (lines_of t.accounts)) back.names ∙ found-back t others back.found
 
       enough : nat_le (length names) 19 ≡ true
       enough = at-most (length names) (ap length back.names ∙ length-map others (name_told t))
