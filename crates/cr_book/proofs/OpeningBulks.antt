@@ -18,6 +18,7 @@ use Rattle.cr_base.specs.declared.entry.Stamp.{Stamp}
 use Rattle.cr_base.specs.declared.entry.Stamped.{Stamped}
 use Rattle.cr_base.specs.declared.reply.Rule.{Rule}
 use Rattle.cr_base.specs.declared.reply.Rule.TheVariants as rules
+use Rattle.cr_base.specs.declared.words.Kind.{Kind}
 use Rattle.cr_base.specs.Bulk.{Action, assigns, unassigns, turns_conflict, turns_tag, action_of, command_told_by}
 use Rattle.cr_base.specs.Bulk.{row_command, row_judged, row_told_judged, turns_own_conflict, Basis, and_behind}
 use Rattle.cr_base.specs.Bulk.{and_rows, entries_of, rows_judged, tables_basis, bulk_checks, bulk_drawn, bulk_of_rows}
@@ -172,26 +173,44 @@ pub with-name : (o : Option (List ℕ)) (made : List ℕ → Command) (command :
 with-name None made command e = absurd (none_some command e)
 with-name (Some name) made command e = (name, refl, some_is (made name) command e)
 
+-- what holds of each kind of entry that a row may add, and of the command that it tells
+pub record OfRows (t : Tables) (P : Entry → Command → Type 0) : Type 0 where
+  pub conflict : (p v : ℕ) (on : Bool) (name : List ℕ) → name_told t v ≡ Some name
+      → P (Conflict p v on) (SetConflict (Some p) (Some name) on)
+  pub assigned : (p v : ℕ) (kind : Kind) (ordinal : ℕ) (name : List ℕ) → name_told t v ≡ Some name
+      → P (Assigned p v kind ordinal) (Assign (Some p) (Some name) kind)
+  pub unassigned : (p v ordinal : ℕ) (name : List ℕ) → name_told t v ≡ Some name
+      → P (Unassigned p v ordinal) (Unassign (Some p) (Some name))
+  pub tagged : (p : ℕ) (tag : List ℕ) (on : Bool) → P (Tagged p tag on) (Tag (Some p) tag on)
+
+-- holds of each that tells a row's command
+pub of-rows : (t : Tables) (P : Entry → Command → Type 0) → OfRows t P → (e : Entry) (command : Command)
+    → row_command_told t e ≡ Some command → P e command
+of-rows t P of (Conflict p v on) command told =
+    let name = with-name (name_told t v) (λ name. SetConflict (Some p) (Some name) on) command told in
+    subst (P (Conflict p v on)) name.2 (of.conflict p v on name.0 name.1)
+of-rows t P of (Assigned p v kind ordinal) command told =
+    let name = with-name (name_told t v) (λ name. Assign (Some p) (Some name) kind) command told in
+    subst (P (Assigned p v kind ordinal)) name.2 (of.assigned p v kind ordinal name.0 name.1)
+of-rows t P of (Unassigned p v ordinal) command told =
+    let name = with-name (name_told t v) (λ name. Unassign (Some p) (Some name)) command told in
+    subst (P (Unassigned p v ordinal)) name.2 (of.unassigned p v ordinal name.0 name.1)
+of-rows t P of (Tagged p tag on) command told =
+    subst (P (Tagged p tag on)) (some_is (Tag (Some p) tag on) command told) (of.tagged p tag on)
+of-rows t P of e command told = absurd (none_some command told)
+
 -- a row spells the command that an entry tells
 entry-spelled : (t : Tables) (stamp : Stamp) (e : Entry) (command : Command) → AreNames t.accounts
-    → IsBoundedEntry (unfinished stamp e)
-    → row_command_told t e ≡ Some command → Spelled command
-entry-spelled t stamp (Conflict paper v on) command names bounded told =
-    let name = with-name (name_told t v) (λ name. SetConflict (Some paper) (Some name) on) command told in
-    subst (λ (c : Command). Spelled c) name.2
-    (conflict-spelled paper bounded.n1.0 bounded.n1.1 name.0 (names v name.0 name.1) on)
-entry-spelled t stamp (Assigned paper v kind ordinal) command names bounded told =
-    let name = with-name (name_told t v) (λ name. Assign (Some paper) (Some name) kind) command told in
-    subst (λ (c : Command). Spelled c) name.2
-    (assign-spelled paper bounded.n1.0 bounded.n1.1 name.0 (names v name.0 name.1) kind)
-entry-spelled t stamp (Unassigned paper v ordinal) command names bounded told =
-    let name = with-name (name_told t v) (λ name. Unassign (Some paper) (Some name)) command told in
-    subst (λ (c : Command). Spelled c) name.2
-    (unassign-spelled paper bounded.n1.0 bounded.n1.1 name.0 (names v name.0 name.1))
-entry-spelled t stamp (Tagged paper tag on) command names bounded told =
-    subst (λ (c : Command). Spelled c) (some_is (Tag (Some paper) tag on) command told)
-    (tag-spelled paper bounded.n1.0 bounded.n1.1 tag on bounded.b1)
-entry-spelled t stamp e command names bounded told = absurd (none_some command told)
+    → row_command_told t e ≡ Some command → IsBoundedEntry (unfinished stamp e) → Spelled command
+entry-spelled t stamp e command names =
+    of-rows t (λ (e : Entry) (c : Command). IsBoundedEntry (unfinished stamp e) → Spelled c) (record {
+      conflict = λ p v on name is bounded. conflict-spelled p bounded.n1.0 bounded.n1.1 name (names v name is) on;
+      assigned = λ p v kind ordinal name is bounded.
+          assign-spelled p bounded.n1.0 bounded.n1.1 name (names v name is) kind;
+      unassigned = λ p v ordinal name is bounded.
+          unassign-spelled p bounded.n1.0 bounded.n1.1 name (names v name is);
+      tagged = λ p tag on bounded. tag-spelled p bounded.n1.0 bounded.n1.1 tag on bounded.b1;
+    }) e command
 
 -- an entry that tells a row's command is a row's
 pub told-of_row : (t : Tables) (e : Entry) (command : Command) → row_command_told t e ≡ Some command
@@ -205,18 +224,13 @@ told-of_row t e command told = by (is_of_row e) told
 -- and its command is one that a row may tell
 pub drawn-of_row : (t : Tables) (e : Entry) (command : Command) → row_command_told t e ≡ Some command
     → IsRowCommand command
-drawn-of_row t (Conflict paper v on) command told =
-    subst (λ (c : Command). IsRowCommand c) (with-name (name_told t v) (λ name. SetConflict (Some paper) (Some name) on)
-    command told).2 tt
-drawn-of_row t (Assigned paper v kind ordinal) command told =
-    subst (λ (c : Command). IsRowCommand c) (with-name (name_told t v) (λ name. Assign (Some paper) (Some name) kind)
-    command told).2 tt
-drawn-of_row t (Unassigned paper v ordinal) command told =
-    subst (λ (c : Command). IsRowCommand c) (with-name (name_told t v) (λ name. Unassign (Some paper) (Some name))
-    command told).2 tt
-drawn-of_row t (Tagged paper tag on) command told =
-    subst (λ (c : Command). IsRowCommand c) (some_is (Tag (Some paper) tag on) command told) tt
-drawn-of_row t e command told = absurd (none_some command told)
+drawn-of_row t =
+    of-rows t (λ (e : Entry) (c : Command). IsRowCommand c) (record {
+      conflict = λ p v on name is. tt;
+      assigned = λ p v kind ordinal name is. tt;
+      unassigned = λ p v ordinal name is. tt;
+      tagged = λ p tag on. tt;
+    })
 
 -- such an entry leaves the accounts
 same-accounts : (accounts : List Account) (e : Entry) → is_of_row e ≡ true → accounts_after accounts e ≡ accounts
@@ -268,7 +282,7 @@ rows-spelled stamp n t (e ∷ entries) names bounded drawn =
     let here = drawn.0 in
     let kept = subst (λ (accounts : List Account). AreNames accounts)
     (sym (same-accounts t.accounts e (told-of_row t e here.command here.told))) names in
-    row-before stamp n t e entries here (entry-spelled t stamp e here.command names bounded.0 here.told)
+    row-before stamp n t e entries here (entry-spelled t stamp e here.command names here.told bounded.0)
     (rows-spelled stamp (n + 1) (tables_after t (unfinished stamp e)) entries kept bounded.1 drawn.1)
 
 -- ---- a whole bulk

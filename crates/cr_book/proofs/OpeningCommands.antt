@@ -46,7 +46,7 @@ use Rattle.cr_base.specs.Texts.{IsTitle, IsAbstract}
 use Rattle.cr_base.proofs.CheckLaws.{NoneBroken, judged-Ok}
 use Rattle.cr_policy.proofs.AccountNames.{found_by_name}
 use Rattle.cr_book.proofs.OpeningNames.{found-tells}
-use Rattle.cr_book.proofs.OpeningBulks.{none_some, some_is, with-name, row-judges, told-of_row, drawn-of_row, one_is}
+use Rattle.cr_book.proofs.OpeningBulks.{none_some, some_is, with-name, row-judges, drawn-of_row, one_is}
 use Rattle.cr_book.proofs.OpeningLegal.{MayAdd}
 use Rattle.cr_base.specs.Rows.{rows_of, until_number, IsBoundedEntry}
 use Rattle.cr_base.specs.Deadlines.{last_deadline, IsDeadline, IsDeadlineOrNone}
@@ -62,28 +62,14 @@ use Rattle.cr_policy.proofs.AcceptedLaws.{key-given}
 use Rattle.cr_policy.proofs.LegalLaws.{Legal-judge}
 use Rattle.cr_book.proofs.OpeningRowCommands.{deed_of, accepted-deed, misses, row-adds, row-tells}
 use Rattle.cr_book.proofs.OpeningRows.{bounded-stamp}
-use Rattle.cr_book.specs.BulkRebuilding.{is_of_row, IsDrawn}
-use Rattle.cr_book.specs.Rebuilding.{name_told, call_given, command_told, paper_command_told, user_command_told}
+use Rattle.cr_book.specs.BulkRebuilding.{row_command_told, IsDrawn}
+use Rattle.cr_book.specs.Rebuilding.{name_told, call_given, command_told, user_command_told}
 use Rattle.cr_book.specs.Rebuilding.{is_givers, is_known, authors_told, call_told, drawn_of, drawn_told}
 use Rattle.cr_book.proofs.OpeningSubmissions.{ToldByRows, registered-known, submission-told, told-judged}
 
 -- ---- all other groups
 
--- the call of an entry that a row of a bulk adds as well is its maker's, and tells no co-authors
-row-call : (t : Tables) (authors : List (Option (List ℕ))) (first : Stamped) (command : Command)
-    → is_of_row first.entry ≡ true
-    → paper_command_told t first.entry ≡ Some command → call_told t authors first ≡ Some (call_by first.stamp command)
-row-call t authors first command of_row told = by first.entry of_row ∙ ap (option_map (call_by first.stamp)) told
-  where
-    by : (e : Entry) → is_of_row e ≡ true → call_told t authors (record first { entry = e })
-        ≡ option_map (call_by first.stamp) (paper_command_told t e)
-    by (Conflict paper v on) of_row = refl
-    by (Assigned paper v kind ordinal) of_row = refl
-    by (Unassigned paper v ordinal) of_row = refl
-    by (Tagged paper tag on) of_row = refl
-    by e of_row = absurd (true≢false (sym of_row))
-
--- and so it is where it tells a user's command
+-- the call of an entry that tells a user's command is its maker's
 user-call : (t : Tables) (authors : List (Option (List ℕ))) (first : Stamped) (command : Command)
     → user_command_told t authors first.entry ≡ Some command
     → call_told t authors first ≡ Some (call_by first.stamp command)
@@ -93,6 +79,15 @@ user-call t authors first command told = by first.entry told
         → call_told t authors (record first { entry = e }) ≡ Some (call_by first.stamp command)
     by (Registered user name digest) told = absurd (none_some command told)
     by e told = ap (option_map (call_by first.stamp)) told
+
+-- what tells a row's command tells a user's, and no co-authors
+row-user : (t : Tables) (authors : List (Option (List ℕ))) (e : Entry) (command : Command)
+    → row_command_told t e ≡ Some command → user_command_told t authors e ≡ Some command
+row-user t authors (Conflict paper v on) command told = told
+row-user t authors (Assigned paper v kind ordinal) command told = told
+row-user t authors (Unassigned paper v ordinal) command told = told
+row-user t authors (Tagged paper tag on) command told = told
+row-user t authors e command told = absurd (none_some command told)
 
 -- a user's command that adds one entry
 abbrev AddsOneEntry : Command → Type 0
@@ -484,12 +479,9 @@ module _ (H : History) (legal : Legal H) where
       → is_known t (Some stamp.maker) ≡ true → IsDrawn t stamp e → MayAdd H (grouped stamp (e ∷ []))
   drawn-adds stamp e bounded new known d =
       let first : Stamped = stamped stamp false e in
-      let of_row = told-of_row t e d.command d.told in
-      let told : paper_command_told t e ≡ Some d.command =
-      ap (λ (b : Bool). cond b (paper_command_told t e) None) (sym of_row) ∙ d.told in
       let judges = (row-judges t stamp d.command d.drawn d.accepted).1 in
       let added = told-adds [] first d.drawn bounded new
-      (told-judged t [] first (call_by stamp d.command) (Ok d.drawn) (row-call t [] first d.command of_row told) known
+      (told-judged t [] first (call_by stamp d.command) (Ok d.drawn) (user-call t [] first d.command (row-user t [] e d.command d.told)) known
       judges) in
       let one = row-adds t stamp d.drawn d.command (drawn-of_row t e d.command d.told) judges in
       subst (λ (g : History). MayAdd H g) (one.group_is ∙ ap (λ (x : Entry). grouped stamp (x ∷ []))

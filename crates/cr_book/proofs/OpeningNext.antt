@@ -1,13 +1,13 @@
 -- Behind the rows of a bulk one more is always accepted: a tag on the paper of the first.
 use Rattle.std.proofs.Common.{ℕ, Bool, true, false, cond, ◌≡◌, ◌≤◌, List, [], ◌∷◌, ◌++◌, eqb, refl, sym, ap, subst, ◌∙◌}
 use Rattle.std.proofs.Common.{arith, ◌||◌, ◌&&◌, Option, Some, None, Result, Ok, Err}
-use Rattle.std.specs.Prelude.{is_none, is_some, is_ok, not, unwrap_or}
+use Rattle.std.specs.Prelude.{is_none, is_some, is_ok, not}
 use Rattle.std.specs.List.{list_any}
 use Rattle.std.specs.Option.{option_map}
 use Rattle.std.proofs.lemmas.Bool.{and_parts, true≢false}
 use Rattle.std.proofs.lemmas.Bool.Decides.{nat_tests}
 use Rattle.cr_base.specs.declared.command.Command.{Command}
-use Rattle.cr_base.specs.declared.command.Command.TheVariants.{SetConflict, Assign, Unassign, Tag}
+use Rattle.cr_base.specs.declared.command.Command.TheVariants.{SetConflict, Tag}
 use Rattle.cr_base.specs.declared.entry.Entry.{Entry}
 use Rattle.cr_base.specs.declared.entry.Entry.TheVariants.{Conflict, Assigned, Unassigned, Tagged}
 use Rattle.cr_base.specs.declared.entry.Stamp.{Stamp}
@@ -21,8 +21,7 @@ use Rattle.cr_base.specs.Accounts.{lines_of, role_in}
 use Rattle.cr_base.specs.Bulk.{bulk_checks, turns_own_conflict, entries_of}
 use Rattle.cr_base.specs.Calls.{call_by}
 use Rattle.cr_base.specs.Checks.{about, conflict_case, own_checks, other_checks}
-use Rattle.cr_base.specs.Deeds.{drawn_by}
-use Rattle.cr_base.specs.Drawn.{Drawn, alone}
+use Rattle.cr_base.specs.Drawn.{alone}
 use Rattle.cr_base.specs.Invites.{is_invited_in}
 use Rattle.cr_base.specs.Judging.{judge_by_role}
 use Rattle.cr_base.specs.Lists.{is_number}
@@ -31,7 +30,7 @@ use Rattle.cr_base.specs.Papers.{paper_numbers, is_withdrawn_at}
 use Rattle.cr_base.specs.Phases.{committee_works, authors_have_declared, conflicts_are_final}
 use Rattle.cr_base.specs.Rows.{IsBoundedEntry}
 use Rattle.cr_base.specs.Seats.{ordinal_in}
-use Rattle.cr_base.specs.Sources.{facts_of_tables, is_late, standing_at}
+use Rattle.cr_base.specs.Sources.{facts_of_tables, is_late, shown_in_tables, standing_at}
 use Rattle.cr_base.specs.Sources.{role_among, user_among}
 use Rattle.cr_base.specs.TagTexts.{is_for_chairs}
 use Rattle.cr_base.specs.Tables.{Tables, tables_after}
@@ -39,11 +38,12 @@ use Rattle.cr_base.specs.Ties.{authors_in, is_author_in, is_conflicted_in, pair_
 use Rattle.cr_base.specs.Words.{is_chair, is_member}
 use Rattle.cr_base.proofs.CheckLaws.{NoneBroken, judged-Ok, judged-none}
 use Rattle.cr_base.proofs.PairLaws.{has_pair-with_tie, has_pair-without_pair}
-use Rattle.cr_judge.specs.Rows.{row_judged_at}
-use Rattle.cr_book.specs.Rebuilding.{name_told, is_known}
+use Rattle.cr_book.specs.Rebuilding.{is_known}
 use Rattle.cr_book.specs.BulkRebuilding.{is_of_row, unfinished, IsDrawn, AreDrawn, caller_judged, may_bulk}
-use Rattle.cr_book.proofs.OpeningRowCommands.{deed_of, accepted-deed, misses}
-use Rattle.cr_book.proofs.OpeningBulks.{row-judges, with-name, some_is, none_some, told-of_row}
+use Rattle.cr_book.proofs.OpeningRowCommands.{deed_of, accepted-deed}
+use Rattle.cr_policy.proofs.BulkLaws.{row-draws}
+use Rattle.cr_policy.proofs.BulkViews.{LeavesStanding}
+use Rattle.cr_book.proofs.OpeningBulks.{of-rows, row-judges, one_is, none_some, told-of_row, drawn-of_row}
 
 -- ---- a chair and a paper
 
@@ -170,82 +170,45 @@ pub record OnClear (t : Tables) (user : ℕ) : Type 0 where
   pub high : paper ≤ 9999
   pub clear : IsClear t user paper
 
--- what is known of a row's command that adds the entry: no rule of its deed is broken, and it adds that entry
-record Deeded (t : Tables) (stamp : Stamp) (e : Entry) (command : Command) : Type 0 where
-  other : turns_own_conflict (facts_of_tables t (Some stamp.maker)) stamp.maker command ≡ false
-  none : NoneBroken (deed_of t stamp command).checks
-  adds : entries_of (drawn_by stamp (deed_of t stamp command)).group ≡ e ∷ []
-
-deeded : (t : Tables) (stamp : Stamp) (e : Entry) (d : IsDrawn t stamp e) (command : Command) → command ≡ d.command
-    → Deeded t stamp e command
-deeded t stamp e d command is =
-    let k = row-judges t stamp command d.drawn (ap (λ (c : Command). row_judged_at t stamp c) is ∙ d.accepted) in
-    let deed = accepted-deed t stamp command d.drawn k.1 in
-    record { other = k.0; none = deed.0; adds = ap (λ (x : Drawn). entries_of x.group) deed.1 ∙ d.adds }
-
--- and of one that turns the conflict of a user
-conflict-deeded : (t : Tables) (stamp : Stamp) (p v : ℕ) (on : Bool) → IsDrawn t stamp (Conflict p v on)
-    → (name : List ℕ) × Deeded t stamp (Conflict p v on) (SetConflict (Some p) (Some name) on)
-conflict-deeded t stamp p v on d =
-    let name = with-name (name_told t v) (λ name. SetConflict (Some p) (Some name) on) d.command d.told in
-    (name.0, deeded t stamp (Conflict p v on) d (SetConflict (Some p) (Some name.0) on) name.2)
+-- no rule is broken of a row's command, which turns no conflict of the user's own
+abbrev Clears : Tables → Stamp → Command → Type 0
+Clears t stamp command =
+    (turns_own_conflict (facts_of_tables t (Some stamp.maker)) stamp.maker command ≡ false)
+    × NoneBroken (deed_of t stamp command).checks
 
 pub drawn-clear : (t : Tables) (stamp : Stamp) (e : Entry) → may_bulk t stamp.maker ≡ true
     → IsBoundedEntry (unfinished stamp e) → IsDrawn t stamp e → OnClear t stamp.maker
-drawn-clear t stamp (Conflict p v on) may bounded d =
-    let k = conflict-deeded t stamp p v on d in
-    record {
-      paper = p;
-      low = bounded.n1.0;
-      high = bounded.n1.1;
-      clear = conflict-clear t stamp (at-work t stamp.maker may) p (Some k.0) on k.1.other k.1.none;
-    }
-drawn-clear t stamp (Assigned p v kind ordinal) may bounded d =
-    let name = with-name (name_told t v) (λ name. Assign (Some p) (Some name) kind) d.command d.told in
-    let none = (deeded t stamp _ d (Assign (Some p) (Some name.0) kind) name.2).none in
-    record {
-      paper = p;
-      low = bounded.n1.0;
-      high = bounded.n1.1;
-      clear = record { there = none.0; clear = none.1.1.1.0; standing = none.1.1.1.1.1.0 };
-    }
-drawn-clear t stamp (Unassigned p v ordinal) may bounded d =
-    let name = with-name (name_told t v) (λ name. Unassign (Some p) (Some name)) d.command d.told in
-    let none = (deeded t stamp _ d (Unassign (Some p) (Some name.0)) name.2).none in
-    record {
-      paper = p;
-      low = bounded.n1.0;
-      high = bounded.n1.1;
-      clear = record { there = none.0; clear = none.1.1.1.0; standing = none.1.1.1.1.1.0 };
-    }
-drawn-clear t stamp (Tagged p tag on) may bounded d =
-    let none =
-    (deeded t stamp _ d (Tag (Some p) tag on) (some_is (Tag (Some p) tag on) d.command d.told)).none in
-    record {
-      paper = p;
-      low = bounded.n1.0;
-      high = bounded.n1.1;
-      clear = record { there = none.0; clear = none.1.1.1.0; standing = none.1.1.1.1.1.0 };
-    }
-drawn-clear t stamp e may bounded d = absurd (none_some d.command d.told)
+drawn-clear t stamp e may bounded d =
+    let k = row-judges t stamp d.command d.drawn d.accepted in
+    of-rows t
+    (λ (e : Entry) (c : Command). IsBoundedEntry (unfinished stamp e) → Clears t stamp c → OnClear t stamp.maker)
+    (record {
+      conflict = λ p v on name is bounded clears.
+          on-clear p bounded.n1
+          (conflict-clear t stamp (at-work t stamp.maker may) p (Some name) on clears.0 clears.1);
+      assigned = λ p v kind ordinal name is bounded clears.
+          on-clear p bounded.n1
+          (record { there = clears.1.0; clear = clears.1.1.1.1.0; standing = clears.1.1.1.1.1.1.0 });
+      unassigned = λ p v ordinal name is bounded clears.
+          on-clear p bounded.n1
+          (record { there = clears.1.0; clear = clears.1.1.1.1.0; standing = clears.1.1.1.1.1.1.0 });
+      tagged = λ p tag on bounded clears.
+          on-clear p bounded.n1
+          (record { there = clears.1.0; clear = clears.1.1.1.1.0; standing = clears.1.1.1.1.1.1.0 });
+    }) e d.command d.told bounded (k.0, (accepted-deed t stamp d.command d.drawn k.1).0)
+  where
+    on-clear : (p : ℕ) → (1 ≤ p) × (p ≤ 9999) → IsClear t stamp.maker p → OnClear t stamp.maker
+    on-clear p within clear = record { paper = p; low = within.0; high = within.1; clear = clear }
 
 -- ---- what stays behind a row
 
 -- a row's conflict is another user's
-other-user : (t : Tables) (stamp : Stamp) (p v : ℕ) (on : Bool) → IsDrawn t stamp (Conflict p v on)
-    → eqb v stamp.maker ≡ false
-other-user t stamp p v on d =
-    let k = conflict-deeded t stamp p v on d in
-    let target : Option ℕ = user_among (lines_of t.accounts) (Some k.0) in
-    by target k.1.none.1.0 k.1.other (conflict_is (unwrap_or target 0) k.1.adds)
-  where
-    conflict_is : (w : ℕ) → Conflict p w on ∷ [] ≡ Conflict p v on ∷ [] → w ≡ v
-    conflict_is w e = cc (e)
-
-    by : (target : Option ℕ) → misses t stamp p target ≡ false → is_number target stamp.maker ≡ false
-        → unwrap_or target 0 ≡ v → eqb v stamp.maker ≡ false
-    by None there other same = absurd (true≢false there)
-    by (Some w) there other same = ap (λ (n : ℕ). eqb n stamp.maker) (sym same) ∙ other
+others-drawn : (t : Tables) (stamp : Stamp) (e : Entry) → IsDrawn t stamp e → LeavesStanding stamp.maker e
+others-drawn t stamp e d =
+    let k = row-judges t stamp d.command d.drawn d.accepted in
+    let draws = row-draws (facts_of_tables t (Some stamp.maker)) (shown_in_tables t) stamp d.command d.drawn
+    (drawn-of_row t e d.command d.told) k.0 k.1 in
+    subst (LeavesStanding stamp.maker) (one_is draws.entry e (ap entries_of (sym draws.group) ∙ d.adds)) draws.of_row
 
 either : (a b : Bool) → (a || b) ≡ false → (a ≡ false) × (b ≡ false)
 either true b h = absurd (true≢false h)
@@ -272,7 +235,7 @@ kept-clear t stamp (Conflict q v on) p d c = record {
         either (is_author_in t.ties (Some stamp.maker) p) (has_pair (pair_of p stamp.maker) t.ties.conflicts) c.clear
 
     other : same_pair (pair_of p stamp.maker) (pair_of q v) ≡ false
-    other = apart p stamp.maker q v (other-user t stamp q v on d)
+    other = apart p stamp.maker q v (others-drawn t stamp (Conflict q v on) d)
 
     by : (on : Bool) → has_pair (pair_of p stamp.maker) (switched on q v t.ties.conflicts) ≡ false
     by true = has_pair-with_tie ByPaper (pair_of p stamp.maker) (bare_tie q v) t.ties.conflicts
