@@ -1,15 +1,11 @@
 -- What the search ends with answers the problem.
-use Rattle.std.proofs.Common.{◌≡◌, ℕ, ◌<◌, List, length, ℤ, pos, ◌-ℤ◌, ◌≤ℤ◌, arith, ap, sym, ◌∙◌, subst}
+use Rattle.cr_match.proofs.Common.{◌≡◌, ℕ, ◌<◌, List, length, ℤ, pos, ◌-ℤ◌, ◌≤ℤ◌, arith, ap, sym, ◌∙◌, subst, Pair}
+use Rattle.cr_match.proofs.Common.{Problem, Slot, kept, IsPlan, total_weight, bound, IsTooMuch}
+use Rattle.cr_match.proofs.Common.{zeros, marks, lowered, IsProblem, HasNoPlan}
+use Rattle.cr_match.proofs.Common.{IsChosen}
 use Rattle.std.proofs.lemmas.List.{length-map}
-use Rattle.cr_match.specs.declared.problem.Pair.{Pair}
 use Rattle.cr_match.specs.declared.problem.Prices.{Prices}
-use Rattle.cr_match.specs.declared.problem.Problem.{Problem}
-use Rattle.cr_match.specs.declared.search.Slot.{Slot}
-use Rattle.cr_match.specs.Plan.{kept, IsPlan, total_weight, bound, IsTooMuch}
-use Rattle.cr_match.specs.Slack.{chosen_value, dual}
-use Rattle.cr_match.specs.Labels.{Filled, zeros}
-use Rattle.cr_match.specs.Copies.{AreBy, IsFor, marks, AllWorth, lowered}
-use Rattle.cr_match.specs.Answer.{IsProblem, IsGreatest, HasNoPlan, IsChosen}
+use Rattle.cr_match.specs.Answer.{IsGreatest}
 use Rattle.cr_match.proofs.Duality.{weight-le-bound}
 use Rattle.cr_match.proofs.Strong.{value-is-dual}
 use Rattle.cr_match.proofs.Room.{too_much-no_plan}
@@ -22,22 +18,17 @@ pub is_greatest : (problem : Problem) (ts : List Slot) (a b : List ℕ) (pairs :
     pairs ≡ kept (marks ts) problem.pairs.items → total ≡ total_weight pairs →
     prices.papers.items ≡ lowered a → prices.members.items ≡ b → IsGreatest problem pairs total prices
 is_greatest problem ts a b pairs total prices fine chosen is_pairs is_total is_papers is_members =
-    let la : length a ≡ problem.papers = chosen.papers in
-    let lb : length b ≡ problem.members = chosen.members in
-    let filled : Filled problem.per_paper problem.load problem.papers 0 ts = chosen.filled in
-    let for : AreBy IsFor problem.pairs.items ts = chosen.are in
-    let worth : AllWorth 4294967276 4294967316 problem.papers ts =
-    are_worth problem.papers problem.members problem.pairs.items ts fine.inside for in
-    let strong : chosen_value ts ≡ dual problem.per_paper problem.load a b ts =
-    value-is-dual problem.per_paper problem.load a b ts chosen.suits
+    let la = chosen.papers in
+    let lb = chosen.members in
+    let filled = chosen.filled in
+    let for = chosen.are in
+    let worth = are_worth problem.papers problem.members problem.pairs.items ts fine.inside for in
+    let strong = value-is-dual problem.per_paper problem.load a b ts chosen.suits
     (λ q l. filled.full q (let m : q < problem.papers = omega (arith, l, la) in m)) chosen.priced in
-    let eq : total_weight (kept (marks ts) problem.pairs.items) ≡ bound problem.per_paper problem.load (lowered a) b
-    problem.pairs.items =
-    weight-is-bound problem.per_paper problem.load 4294967276 4294967316 problem.papers problem.members a b
+    let eq = weight-is-bound problem.per_paper problem.load 1073741804 1073741844 problem.papers problem.members a b
     problem.pairs.items ts fine.inside (sym la) for worth filled.full strong in
-    let tw : total ≡ bound problem.per_paper problem.load (lowered a) b problem.pairs.items =
-    is_total ∙ ap total_weight is_pairs ∙ eq in
-    let ll : problem.papers ≡ length (lowered a) = sym (length-map a (λ x. pos x -ℤ pos 4294967296) ∙ la) in
+    let tw = is_total ∙ ap total_weight is_pairs ∙ eq in
+    let ll = sym (length-map a (λ x. pos x -ℤ pos 1073741824) ∙ la) in
     record {
       plan = record {
         marks = marks ts;
@@ -50,9 +41,7 @@ is_greatest problem ts a b pairs total prices fine chosen is_pairs is_total is_p
           let p : IsPlan (length (lowered a)) problem.per_paper problem.load (kept plan.marks problem.pairs.items) =
           subst (λ n. IsPlan n problem.per_paper problem.load (kept plan.marks problem.pairs.items)) ll
           (subst (IsPlan problem.papers problem.per_paper problem.load) plan.some plan.fits) in
-          let le : total_weight (kept plan.marks problem.pairs.items) ≤ℤ bound problem.per_paper problem.load
-          (lowered a) b problem.pairs.items =
-          weight-le-bound problem.per_paper problem.load (lowered a) b problem.pairs.items plan.marks p in
+          let le = weight-le-bound problem.per_paper problem.load (lowered a) b problem.pairs.items plan.marks p in
           subst (λ (x : ℤ). total_weight other ≤ℤ x) (sym tw)
           (subst (λ (x : ℤ). x ≤ℤ bound problem.per_paper problem.load (lowered a) b problem.pairs.items)
           (sym (ap total_weight plan.some)) le);

@@ -1,13 +1,9 @@
 -- What another choice of the same slots costs: where no search can bring a slot in, none that is worth as much has it.
-use Rattle.std.proofs.Common.{◌≡◌, ℕ, zero, suc, ◌+◌, ◌-◌, ◌<◌, ◌≤◌, Bool, true, false, cond, ◌&&◌, ◌==◌, List, [], ◌∷◌}
-use Rattle.std.proofs.Common.{◌++◌, length, count_by, get_or, replicate, ltb, refl, arith, ap, sym, ◌∙◌}
-use Rattle.std.proofs.lemmas.Bool.Decides.{nat_tests}
-use Rattle.std.proofs.lemmas.List.{get_or-replicate}
-use Rattle.std.proofs.lemmas.List.Sums.{sum_by-cons, sum_by-append}
-use Rattle.cr_match.specs.declared.search.Slot.{Slot}
-use Rattle.cr_match.specs.Slack.{price, AllSuit, has_paper, has_member, chosen_value, Closed}
-use Rattle.cr_match.specs.Labels.{Alike, Filled}
-use Rattle.cr_match.specs.Earlier.{AllInside, Kept}
+use Rattle.cr_match.proofs.Common.{◌≡◌, ℕ, zero, suc, ◌+◌, ◌-◌, ◌<◌, ◌≤◌, Bool, true, false, cond, ◌&&◌, ◌==◌, List}
+use Rattle.cr_match.proofs.Common.{[], ◌∷◌, ◌++◌, length, count_by, get_or, replicate, ltb, refl, arith, ap, sym, ◌∙◌}
+use Rattle.cr_match.proofs.Common.{nat_tests, get_or-replicate, sum_by-cons, sum_by-append, Slot, price, AllSuit}
+use Rattle.cr_match.proofs.Common.{has_paper, has_member, chosen_value, Closed, Alike, Filled, AllInside}
+use Rattle.cr_match.specs.Earlier.{Kept}
 use Rattle.cr_match.proofs.Duality.{owed_n_same, owed_n_light}
 use Rattle.cr_match.proofs.Strong.{pays, pays_is_owed, owed_n_whole}
 use Rattle.cr_match.proofs.Alike.{bit}
@@ -176,8 +172,8 @@ nothing false n h = refl
 pays_nothing : (place : Slot → ℕ) (ss : List Slot) → pays place [] ss ≡ 0
 pays_nothing place [] = refl
 pays_nothing place (s ∷ ss) =
-    let n : ℕ = get_or {A = ℕ} [] (place s) 0 in
-    let z : cond s.chosen n 0 ≡ 0 = nothing s.chosen n refl in
+    let n = get_or {A = ℕ} [] (place s) 0 in
+    let z = nothing s.chosen n refl in
     omega (arith, z, pays_nothing place ss, pays_cons place [] s ss)
 
 -- a choice that suits its prices is worth as much as any
@@ -206,7 +202,7 @@ pub both_cost : (want load papers members : ℕ) (a b d e : List ℕ) (xs : List
     chosen_value (xs ++ t ∷ ts) + members_pay b (xs ++ s ∷ ss) + members_pay e (xs ++ s ∷ ss) + bit t.chosen
     ≤ chosen_value (xs ++ s ∷ ss) + members_pay b (xs ++ t ∷ ts) + members_pay e (xs ++ t ∷ ts)
 both_cost want load papers members a b d e xs s t ss ts k f h out up closed ld le =
-    let suit : AllSuit a b ss = after a b xs s ss k.suits in
+    let suit = after a b xs s ss k.suits in
     omega (
       arith,
       from_cost a b d e s t ss ts h out up suit closed ld le,
@@ -280,11 +276,10 @@ joined_pay : (papers members : ℕ) (b e : List ℕ) (ss : List Slot) → length
     members_pay b ss + members_pay e ss ≡ members_pay (joined b e) ss + papers_pay (replicate {A = ℕ} papers 1) ss
 joined_pay papers members b e [] l i some = refl
 joined_pay papers members b e (s ∷ ss) l i some =
-    let at : get_or (joined b e) s.member 0 ≡ get_or b s.member 0 + get_or e s.member 0 - 1 =
-    joined_at b e s.member l in
+    let at = joined_at b e s.member l in
     let sum : get_or b s.member 0 + get_or e s.member 0 ≡ get_or (joined b e) s.member 0 + 1 =
     omega (arith, at, some s.member i.1) in
-    let one : get_or (replicate {A = ℕ} papers 1) s.paper 0 ≡ 1 = get_or-replicate {A = ℕ} papers s.paper 1 0 i.0 in
+    let one = get_or-replicate {A = ℕ} papers s.paper 1 0 i.0 in
     omega (
       arith,
       one_joined (get_or b s.member 0) (get_or e s.member 0) (get_or (joined b e) s.member 0)
@@ -346,7 +341,7 @@ not_reached want load papers members a b d e xs s t ss ts z lz k f i h out up cl
 
 more_bit : (p : ℕ) (t : Bool) → t ≡ true → bit (t && (p == p)) ≡ 1
 more_bit p true e = grind (arith, nat_tests)
-more_bit p false e = absurd (let f : false ≡ true = e in cc)
+more_bit p false e = absurd (let f = e in cc)
 
 over_paper : (want load papers : ℕ) (xs : List Slot) (t : Slot) (ts : List Slot) (c : Bool) → t.chosen ≡ c
     → Filled want load papers 0 (xs ++ t ∷ ts) → t.paper < papers →
@@ -362,26 +357,7 @@ over_paper want load papers xs t ts true hc f lt full =
     ))
 over_paper want load papers xs t ts false hc f lt full = refl
 
-over_member : (want load papers : ℕ) (xs : List Slot) (t : Slot) (ts : List Slot) (c : Bool) → t.chosen ≡ c
-    → Filled want load papers 0 (xs ++ t ∷ ts) →
-    load ≤ count_by (has_member t.member) xs → c ≡ false
-over_member want load papers xs t ts true hc f full =
-    absurd (omega (
-      arith,
-      f.light t.member,
-      full,
-      more_bit t.member t.chosen hc,
-      sum_by-append (λ x. bit (has_member t.member x)) xs (t ∷ ts),
-      sum_by-cons (λ x. bit (has_member t.member x)) t ts,
-    ))
-over_member want load papers xs t ts false hc f full = refl
-
 pub paper_full : (want load papers : ℕ) (xs : List Slot) (t : Slot) (ts : List Slot)
     → Filled want load papers 0 (xs ++ t ∷ ts) → t.paper < papers →
     want ≤ count_by (has_paper t.paper) xs → t.chosen ≡ false
 paper_full want load papers xs t ts f lt full = over_paper want load papers xs t ts t.chosen refl f lt full
-
-pub member_full : (want load papers : ℕ) (xs : List Slot) (t : Slot) (ts : List Slot)
-    → Filled want load papers 0 (xs ++ t ∷ ts) →
-    load ≤ count_by (has_member t.member) xs → t.chosen ≡ false
-member_full want load papers xs t ts f full = over_member want load papers xs t ts t.chosen refl f full

@@ -1,17 +1,35 @@
 -- Closed labels, whatever the prices: a member has no more room for the papers without a label than they have of her.
-use Rattle.std.proofs.Common.{◌≡◌, ℕ, zero, suc, ◌+◌, ◌<◌, ◌≤◌, Bool, true, false, cond, ◌&&◌, ◌==◌, List, [], ◌∷◌}
-use Rattle.std.proofs.Common.{length, count_by, min, get_or, refl, arith, ap}
-use Rattle.std.proofs.lemmas.Bool.Decides.{nat_tests}
-use Rattle.std.proofs.lemmas.List.Sums.{sum_by-cons}
-use Rattle.cr_match.specs.declared.search.Slot.{Slot}
-use Rattle.std.proofs.Common.{◌*◌, sum}
-use Rattle.cr_match.specs.Slack.{has_member, has_paper}
-use Rattle.cr_match.specs.Plan.{total_below}
-use Rattle.cr_match.specs.Labels.{bare, InShape, cut_slot, AllTight, ClosedAt}
+use Rattle.cr_match.proofs.Common.{◌≡◌, ℕ, zero, suc, ◌+◌, ◌<◌, ◌≤◌, Bool, true, false, cond, ◌&&◌, ◌==◌, List, []}
+use Rattle.cr_match.proofs.Common.{◌∷◌, length, count_by, min, get_or, refl, arith, ap, nat_tests, sum_by-cons, Slot}
+use Rattle.cr_match.proofs.Common.{◌*◌, sum, has_member, has_paper, total_below, bare, cut_slot, AllInside}
+use Rattle.cr_match.proofs.Common.{mul-le-mul_left}
+use Rattle.cr_match.proofs.Duality.{owed_n, owed_n_light}
 use Rattle.cr_match.proofs.Strong.{pays, pays_is_owed}
-use Rattle.cr_match.proofs.PriceSteps.{owed-less}
 use Rattle.cr_match.proofs.Room.{total_below_one, total_below_none, total_below_add, total_below_same}
-use Rattle.cr_match.proofs.Fall.{bare_some}
+
+-- what is owed is less, where a place with a price has less
+owed-less : (f : ℕ → ℕ) (want : ℕ) (xs : List ℕ) (k i : ℕ) → ((q : ℕ) → f q ≤ want) → 0 < get_or xs i 0
+    → f (k + i) < want →
+    owed_n f xs k < want * sum xs
+owed-less f want [] k i le some less = absurd (let z : get_or {A = ℕ} [] i 0 ≡ 0 = refl in omega (arith, z, some))
+owed-less f want (x ∷ xs) k zero le some less =
+    let e : f (k + 0) ≡ f k = (let z : k + 0 ≡ k = omega arith in ap f z) in
+    let p : suc (f k) ≤ want = omega (arith, e, less) in
+    let m = mul-le-mul_left x p in
+    let s : want * sum (x ∷ xs) ≡ want * (x + sum xs) = ap (λ n. want * n) (sum_by-cons (λ y. y) x xs) in
+    let one = some in
+    omega (arith, m, s, one, owed_n_light f want xs (suc k) le)
+owed-less f want (x ∷ xs) k (suc i) le some less =
+    let e : f (suc k + i) ≡ f (k + suc i) = (let z : suc k + i ≡ k + suc i = omega arith in ap f z) in
+    let l : f (suc k + i) < want = omega (arith, e, less) in
+    let m = mul-le-mul_left x (le k) in
+    let s : want * sum (x ∷ xs) ≡ want * (x + sum xs) = ap (λ n. want * n) (sum_by-cons (λ y. y) x xs) in
+    omega (arith, m, s, owed-less f want xs (suc k) i le some l)
+
+bare_some : (ls : List ℕ) (q : ℕ) → q < length ls → get_or ls q 0 ≡ 0 → get_or (bare ls) q 0 ≡ 1
+bare_some [] q h z = absurd (let e : length {A = ℕ} [] ≡ 0 = refl in omega (arith, h, e))
+bare_some (l ∷ ls) zero h z = ap (λ n. cond (n == 0) 1 0) z
+bare_some (l ∷ ls) (suc q) h z = bare_some ls q (let e : length (l ∷ ls) ≡ suc (length ls) = refl in omega (arith, h, e)) z
 
 abbrev pub cut_chosen : List ℕ → ℕ → Slot → Bool
 cut_chosen lp m s = s.chosen && cut_slot lp m s
@@ -47,7 +65,7 @@ one_labelled lp lm m s false true false hc he hr z h = omega arith
 one_labelled lp lm m s false true true hc he hr z h =
     let eq : s.member ≡ m = grind (arith, nat_tests) in
     let l : get_or lm s.member 0 ≡ get_or lm m 0 = ap (λ k. get_or lm k 0) eq in
-    let p : 0 < get_or lp s.paper 0 = h hc (let k : 0 < get_or lm s.member 0 = omega (arith, l, z) in k) in
+    let p = h hc (let k : 0 < get_or lm s.member 0 = omega (arith, l, z) in k) in
     let n : get_or lp s.paper 0 ≡ 0 = grind (arith, nat_tests) in
     absurd (omega (arith, p, n))
 
@@ -88,7 +106,7 @@ cut_room load lp lm m ss false e h full =
 below_le : (f g : ℕ → ℕ) (n : ℕ) → ((m : ℕ) → m < n → f m ≤ g m) → total_below f n ≤ total_below g n
 below_le f g zero h = omega arith
 below_le f g (suc n) h =
-    let here : f n ≤ g n = h n (omega arith) in
+    let here = h n (omega arith) in
     omega (arith, here, below_le f g n (λ m l. h m (omega arith)))
 
 slot_once : (members : ℕ) (lp : List ℕ) (s : Slot) (c r : Bool) → (get_or lp s.paper 0 == 0) ≡ r → s.paper < length lp
@@ -100,35 +118,31 @@ slot_once members lp s true true e lp' lm' =
     let z : get_or lp s.paper 0 ≡ 0 = grind (arith, nat_tests) in
     omega (arith, total_below_one s.member members lm', bare_some lp s.paper lp' z)
 
-all_once : (members : ℕ) (lp : List ℕ) (ss : List Slot) → InShape (length lp) members ss →
+all_once : (members : ℕ) (lp : List ℕ) (ss : List Slot) → AllInside (length lp) members ss →
     total_below (λ m. count_by (cut_chosen lp m) ss) members ≤ pays (λ s. s.paper) (bare lp) ss
 all_once members lp [] shape = omega (arith, total_below_none members)
 all_once members lp (s ∷ ss) shape =
-    let l : length (s ∷ ss) ≡ suc (length ss) = refl in
-    let z : 0 < length (s ∷ ss) = omega (arith, l) in
-    let split : total_below (λ m. count_by (cut_chosen lp m) (s ∷ ss)) members
-    ≡ total_below (λ m. cond (cut_chosen lp m s) 1 0 + count_by (cut_chosen lp m) ss) members =
-    total_below_same (λ m. count_by (cut_chosen lp m) (s ∷ ss))
+    let split = total_below_same (λ m. count_by (cut_chosen lp m) (s ∷ ss))
     (λ m. cond (cut_chosen lp m s) 1 0 + count_by (cut_chosen lp m) ss) members
     (λ m. sum_by-cons (λ x. cond (cut_chosen lp m x) 1 0) s ss) in
     omega (
       arith,
       split,
       total_below_add (λ m. cond (cut_chosen lp m s) 1 0) (λ m. count_by (cut_chosen lp m) ss) members,
-      slot_once members lp s s.chosen (get_or lp s.paper 0 == 0) refl (shape 0 s z).0 (shape 0 s z).1,
-      all_once members lp ss (λ k d lt. shape (suc k) d (let m : suc k < length (s ∷ ss) = omega (arith, l, lt) in m)),
+      slot_once members lp s s.chosen (get_or lp s.paper 0 == 0) refl shape.0 shape.1,
+      all_once members lp ss shape.2,
       sum_by-cons (λ x. cond x.chosen (get_or (bare lp) x.paper 0) 0) s ss,
     )
 
 -- closed labels and a paper that lacks members: the papers without a label are too much
-pub closed-too_much : (members want load : ℕ) (lp lm : List ℕ) (ss : List Slot) (p : ℕ) → InShape (length lp) members ss
+pub closed-too_much : (members want load : ℕ) (lp lm : List ℕ) (ss : List Slot) (p : ℕ) → AllInside (length lp) members ss
     → ClosedSlots lp lm ss →
     ((m : ℕ) → m < members → get_or lm m 0 ≡ 0 → count_by (has_member m) ss ≡ load)
     → ((q : ℕ) → count_by (has_paper q) ss ≤ want) →
     p < length lp → get_or lp p 0 ≡ 0 → count_by (has_paper p) ss < want →
     total_below (λ m. min load (count_by (cut_slot lp m) ss)) members < want * sum (bare lp)
 closed-too_much members want load lp lm ss p shape closed full most lt none less =
-    let one : get_or (bare lp) p 0 ≡ 1 = bare_some lp p lt none in
+    let one = bare_some lp p lt none in
     let some : 0 < get_or (bare lp) p 0 = omega (arith, one) in
     let ez : 0 + p ≡ p = omega arith in
     let less' : count_by (has_paper (0 + p)) ss < want = omega (arith, less, ap (λ q. count_by (has_paper q) ss) ez) in
@@ -139,19 +153,4 @@ closed-too_much members want load lp lm ss p shape closed full most lt none less
       all_once members lp ss shape,
       pays_is_owed (λ s. s.paper) (bare lp) ss,
       owed-less (λ q. count_by (has_paper q) ss) want (bare lp) 0 p most some less',
-    )
-
--- where every slot is worth its price, closed labels are closed for each
-pub closed_slots : (a b lp lm : List ℕ) (ss : List Slot) → AllTight a b ss
-    → ((k : ℕ) → k < length ss → ClosedAt a b lp lm ss k) → ClosedSlots lp lm ss
-closed_slots a b lp lm [] tight at = tt
-closed_slots a b lp lm (s ∷ ss) tight at =
-    let l : length (s ∷ ss) ≡ suc (length ss) = refl in
-    let h : (s.chosen ≡ false → 0 < get_or lm s.member 0 → 0 < get_or lp s.paper 0)
-    × (s.chosen ≡ true → 0 < get_or lp s.paper 0 → 0 < get_or lm s.member 0) =
-    at 0 (let z : 0 < length (s ∷ ss) = omega (arith, l) in z) s tight.0 in (
-      h.0,
-      h.1,
-      closed_slots a b lp lm ss tight.1
-          (λ k lt d. at (suc k) (let m : suc k < length (s ∷ ss) = omega (arith, l, lt) in m) d),
     )

@@ -1,21 +1,14 @@
 -- From choices of slots to lists of pairs in dictionary order.
-use Rattle.std.proofs.Common.{◌≡◌, ◌⊎◌, inl, inr, ℕ, zero, suc, ◌+◌, ◌*◌, ◌≤◌, Bool, true, false, List, [], ◌∷◌, length}
-use Rattle.std.proofs.Common.{count_by, take, pos, ◌+ℤ◌, refl, arith, ap, sym, ◌∙◌, subst}
-use Rattle.std.proofs.lemmas.Int.{ints}
-use Rattle.std.proofs.lemmas.List.Sums.{sum_by-cons}
-use Rattle.cr_match.specs.declared.problem.Pair.{Pair}
-use Rattle.cr_match.specs.declared.problem.Problem.{Problem}
-use Rattle.cr_match.specs.declared.search.Slot.{Slot}
-use Rattle.cr_match.specs.Plan.{kept, of_paper, of_member, IsPlan, total_weight}
-use Rattle.cr_match.specs.Slack.{chosen_value}
-use Rattle.cr_match.specs.Labels.{slot, Alike, Filled}
-use Rattle.cr_match.specs.Copies.{AreBy, IsFor, marks}
-use Rattle.cr_match.specs.Earlier.{AllInside, IsNoLater, NoneBefore}
-use Rattle.cr_match.specs.Answer.{ComesAfter, Ascends, IsAscending, IsBefore, IsProblem, IsChosen, IsFirst}
+use Rattle.cr_match.proofs.Common.{◌≡◌, ◌⊎◌, inl, inr, ℕ, zero, suc, ◌+◌, ◌*◌, ◌≤◌, Bool, true, false, List, [], ◌∷◌}
+use Rattle.cr_match.proofs.Common.{length, count_by, take, pos, ◌+ℤ◌, refl, arith, ap, sym, ◌∙◌, subst, ints}
+use Rattle.cr_match.proofs.Common.{sum_by-cons, Pair, Problem, Slot, kept, of_paper, of_member, IsPlan, total_weight}
+use Rattle.cr_match.proofs.Common.{chosen_value, slot, Alike, Filled, AreBy, IsFor, marks, IsNoLater}
+use Rattle.cr_match.proofs.Common.{NoneBefore, IsAscending, IsProblem, IsChosen}
+use Rattle.cr_match.specs.Answer.{ComesAfter, Ascends, IsBefore, IsFirst}
 use Rattle.cr_match.proofs.Alike.{bit}
-use Rattle.cr_match.proofs.Starts.{are_shape, are_worth, are_length, for_alike}
+use Rattle.cr_match.proofs.Starts.{are_inside, are_worth, are_length, for_alike}
 use Rattle.cr_match.proofs.Surface.{kept_papers, kept_members, kept_weight, chosen_count, chosen_count_is}
-use Rattle.cr_match.proofs.Inside.{shape_inside, no_paper, marks_length}
+use Rattle.cr_match.proofs.Inside.{no_paper, marks_length}
 
 comes_trans : (e f g : Pair) → ComesAfter e f → ComesAfter f g → ComesAfter e g
 comes_trans e f g h k = elim h [
@@ -130,9 +123,7 @@ filled_of : (problem : Problem) (plan : List Pair) (ts : List Slot) → IsProble
     → AreBy IsFor problem.pairs.items ts → IsPlan problem.papers problem.per_paper problem.load plan →
     plan ≡ kept (marks ts) problem.pairs.items → Filled problem.per_paper problem.load problem.papers 0 ts
 filled_of problem plan ts fine are fits is =
-    let inside : AllInside problem.papers problem.members ts =
-    shape_inside problem.papers problem.members ts
-    (are_shape IsFor (λ e s p. (p.0, p.1)) problem.papers problem.members problem.pairs.items ts fine.inside are) in
+    let inside = are_inside problem.papers problem.members problem.pairs.items ts fine.inside are in
     record {
       full = λ q l. sym (kept_papers q problem.pairs.items ts are)
           ∙ ap (λ (x : List Pair). count_by (of_paper q) x) (sym is) ∙ fits.full q l;
@@ -150,33 +141,27 @@ filled_of problem plan ts fine are fits is =
 pub is_first : (problem : Problem) (a b : List ℕ) (ss : List Slot) (pairs : List Pair) → IsProblem problem
     → IsChosen problem a b ss →
     NoneBefore problem.per_paper problem.load problem.papers (length ss) ss
-    → pairs ≡ kept (marks ss) problem.pairs.items → IsFirst problem pairs
-is_first problem a b ss pairs fine chosen none is other plan same =
-    let es : List Pair = problem.pairs.items in
-    let ts : List Slot = marked plan.marks ss in
-    let alike : Alike ss (marked plan.marks ss) = marked_alike plan.marks ss in
-    let are : AreBy IsFor problem.pairs.items (marked plan.marks ss) =
-    for_alike problem.pairs.items ss (marked plan.marks ss) chosen.are alike in
-    let io : other ≡ kept (marks (marked plan.marks ss)) problem.pairs.items =
-    plan.some ∙ sym (marked_kept plan.marks problem.pairs.items ss chosen.are) in
-    let filled : Filled problem.per_paper problem.load problem.papers 0 (marked plan.marks ss) =
-    filled_of problem other (marked plan.marks ss) fine are plan.fits io in
-    let ns : chosen_count ss ≡ problem.per_paper * problem.papers =
-    chosen_count_is problem.per_paper 4294967276 4294967316 problem.papers ss
+    → pairs ≡ kept (marks ss) problem.pairs.items → IsAscending problem.pairs.items → IsFirst problem pairs
+is_first problem a b ss pairs fine chosen none is asc other plan same =
+    let es = problem.pairs.items in
+    let ts = marked plan.marks ss in
+    let alike = marked_alike plan.marks ss in
+    let are = for_alike problem.pairs.items ss (marked plan.marks ss) chosen.are alike in
+    let io = plan.some ∙ sym (marked_kept plan.marks problem.pairs.items ss chosen.are) in
+    let filled = filled_of problem other (marked plan.marks ss) fine are plan.fits io in
+    let ns = chosen_count_is problem.per_paper 1073741804 1073741844 problem.papers ss
     (are_worth problem.papers problem.members problem.pairs.items ss fine.inside chosen.are) chosen.filled.full in
-    let nt : chosen_count (marked plan.marks ss) ≡ problem.per_paper * problem.papers =
-    chosen_count_is problem.per_paper 4294967276 4294967316 problem.papers (marked plan.marks ss)
+    let nt = chosen_count_is problem.per_paper 1073741804 1073741844 problem.papers (marked plan.marks ss)
     (are_worth problem.papers problem.members problem.pairs.items (marked plan.marks ss) fine.inside are) filled.full in
-    let ws : total_weight pairs +ℤ pos (4294967296 * chosen_count ss) ≡ pos (chosen_value ss) =
-    ap (λ (x : List Pair). total_weight x +ℤ pos (4294967296 * chosen_count ss)) is
+    let ws : total_weight pairs +ℤ pos (1073741824 * chosen_count ss) ≡ pos (chosen_value ss) =
+    ap (λ (x : List Pair). total_weight x +ℤ pos (1073741824 * chosen_count ss)) is
     ∙ kept_weight problem.pairs.items ss chosen.are in
-    let wt : total_weight other +ℤ pos (4294967296 * chosen_count (marked plan.marks ss))
+    let wt : total_weight other +ℤ pos (1073741824 * chosen_count (marked plan.marks ss))
     ≡ pos (chosen_value (marked plan.marks ss)) =
-    ap (λ (x : List Pair). total_weight x +ℤ pos (4294967296 * chosen_count (marked plan.marks ss))) io
+    ap (λ (x : List Pair). total_weight x +ℤ pos (1073741824 * chosen_count (marked plan.marks ss))) io
     ∙ kept_weight problem.pairs.items (marked plan.marks ss) are in
     let most : chosen_value ss ≤ chosen_value (marked plan.marks ss) = omega (arith, ints, ns, nt, ws, wt, same) in
-    let before : IsNoLater (take (length ss) (marks ss)) (take (length ss) (marks (marked plan.marks ss))) =
-    none (marked plan.marks ss) alike filled most in
+    let before = none (marked plan.marks ss) alike filled most in
     let ls : length (marks ss) ≤ length ss = omega (arith, marks_length ss) in
     let lt : length (marks (marked plan.marks ss)) ≤ length ss =
     omega (
@@ -198,7 +183,7 @@ is_first problem a b ss pairs fine chosen none is other plan same =
       ns,
       nt,
     ) in
-    elim (in_order problem.pairs.items (marks ss) (marks (marked plan.marks ss)) fine.order order long) [
+    elim (in_order problem.pairs.items (marks ss) (marks (marked plan.marks ss)) asc order long) [
       | inl e ↦ inl (io ∙ e ∙ sym is)
       | inr b' ↦ inr (subst (λ (x : List Pair). IsBefore x other) (sym is)
           (subst (λ (y : List Pair). IsBefore (kept (marks ss) problem.pairs.items) y) (sym io) b'))

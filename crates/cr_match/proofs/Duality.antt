@@ -1,14 +1,9 @@
 -- No plan is worth more than what prices say.
-use Rattle.std.proofs.Common.{◌≡◌, ℕ, zero, suc, ◌+◌, ◌*◌, ◌<◌, ◌≤◌, Bool, true, false, cond, List, [], ◌∷◌, length}
-use Rattle.std.proofs.Common.{count_by, ◌==◌, ℤ, pos, negsuc, ◌+ℤ◌, ◌-ℤ◌, ◌*ℤ◌, ◌≤ℤ◌, sum, sum_by, get_or, refl, arith}
-use Rattle.std.proofs.Common.{ap}
-use Rattle.std.proofs.Math.Nat.{mul-le-mul_left}
+use Rattle.cr_match.proofs.Common.{◌≡◌, ℕ, zero, suc, ◌+◌, ◌*◌, ◌<◌, ◌≤◌, Bool, true, false, cond, List, [], ◌∷◌}
+use Rattle.cr_match.proofs.Common.{length, count_by, ◌==◌, ℤ, pos, negsuc, ◌+ℤ◌, ◌-ℤ◌, ◌*ℤ◌, ◌≤ℤ◌, sum, sum_by}
+use Rattle.cr_match.proofs.Common.{get_or, refl, arith, ap, mul-le-mul_left, nat_tests, ints, sum_by-cons, Pair, kept}
+use Rattle.cr_match.proofs.Common.{of_paper, of_member, IsPlan, sum_z, total_weight, above, excess, bound}
 use Rattle.std.proofs.Math.IntN.{suc_ℤ-*ℤ, zero-*ℤ}
-use Rattle.std.proofs.lemmas.Bool.Decides.{nat_tests}
-use Rattle.std.proofs.lemmas.Int.{ints}
-use Rattle.std.proofs.lemmas.List.Sums.{sum_by-cons}
-use Rattle.cr_match.specs.declared.problem.Pair.{Pair}
-use Rattle.cr_match.specs.Plan.{kept, of_paper, of_member, IsPlan, sum_z, total_weight, above, excess, bound}
 
 pub le_above : (z : ℤ) → z ≤ℤ pos (above z)
 le_above (pos n) = omega (arith, ints)
@@ -106,9 +101,7 @@ count-cons p e es = sum_by-cons (λ x. cond (p x) 1 0) e es
 paper_prices_are : (a : List ℤ) (es : List Pair) → owed (λ q. count_by (of_paper q) es) a 0 ≡ paper_prices a es
 paper_prices_are a [] = owed_none a 0
 paper_prices_are a (e ∷ es) =
-    let split : owed (λ q. count_by (of_paper q) (e ∷ es)) a 0 ≡ owed (λ q. one_at e.paper q + count_by (of_paper q) es)
-    a 0 =
-    owed_same (λ q. count_by (of_paper q) (e ∷ es)) (λ q. one_at e.paper q + count_by (of_paper q) es)
+    let split = owed_same (λ q. count_by (of_paper q) (e ∷ es)) (λ q. one_at e.paper q + count_by (of_paper q) es)
     (λ q. count-cons (of_paper q) e es) a 0 in
     let at : e.paper ≡ 0 + e.paper = omega arith in
     omega (
@@ -164,7 +157,7 @@ owed_n_one (suc i) (x ∷ xs) k r h =
 pub owed_n_light : (f : ℕ → ℕ) (load : ℕ) (xs : List ℕ) (k : ℕ) → ((q : ℕ) → f q ≤ load) → owed_n f xs k ≤ load * sum xs
 owed_n_light f load [] k h = omega arith
 owed_n_light f load (x ∷ xs) k h =
-    let p : x * f k ≤ x * load = mul-le-mul_left x (h k) in
+    let p = mul-le-mul_left x (h k) in
     let s : load * sum (x ∷ xs) ≡ load * (x + sum xs) = ap (λ n. load * n) (sum_by-cons (λ y. y) x xs) in
     omega (arith, p, s, owed_n_light f load xs (suc k) h)
 
@@ -174,9 +167,7 @@ member_prices b es = sum_by (λ e. get_or b e.member 0) es
 member_prices_are : (b : List ℕ) (es : List Pair) → owed_n (λ q. count_by (of_member q) es) b 0 ≡ member_prices b es
 member_prices_are b [] = owed_n_none b 0
 member_prices_are b (e ∷ es) =
-    let split : owed_n (λ q. count_by (of_member q) (e ∷ es)) b 0
-    ≡ owed_n (λ q. one_at e.member q + count_by (of_member q) es) b 0 =
-    owed_n_same (λ q. count_by (of_member q) (e ∷ es)) (λ q. one_at e.member q + count_by (of_member q) es)
+    let split = owed_n_same (λ q. count_by (of_member q) (e ∷ es)) (λ q. one_at e.member q + count_by (of_member q) es)
     (λ q. count-cons (of_member q) e es) b 0 in
     let at : e.member ≡ 0 + e.member = omega arith in
     omega (
@@ -214,9 +205,8 @@ sum_by-kept-le f (false ∷ bs) (x ∷ xs) = omega (arith, sum_by-kept-le f bs x
 pub weight-le-bound : (want load : ℕ) (a : List ℤ) (b : List ℕ) (pairs : List Pair) (marks : List Bool) →
     IsPlan (length a) want load (kept marks pairs) → total_weight (kept marks pairs) ≤ℤ bound want load a b pairs
 weight-le-bound want load a b pairs marks plan =
-    let es : List Pair = kept marks pairs in
-    let full : owed (λ q. count_by (of_paper q) (kept marks pairs)) a 0 ≡ pos want *ℤ sum_z a =
-    owed_full (λ q. count_by (of_paper q) (kept marks pairs)) want a 0
+    let es = kept marks pairs in
+    let full = owed_full (λ q. count_by (of_paper q) (kept marks pairs)) want a 0
     (λ q l. plan.full q (let s : q < length a = omega arith in s)) in
     omega (
       arith,

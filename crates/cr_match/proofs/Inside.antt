@@ -1,41 +1,9 @@
 -- Slots one by one: where they are, counts over joined lists, and lists that differ in what is chosen alone.
-use Rattle.std.proofs.Common.{Bool, true, false, ◌&&◌, ◌≡◌, ℕ, zero, suc, ◌+◌, ◌<◌, ◌≤◌, ◌==◌, List, [], ◌∷◌, ◌++◌}
-use Rattle.std.proofs.Common.{length, count_by, take, drop, get_or, refl, arith, ap, sym, ◌∙◌}
-use Rattle.std.proofs.lemmas.Bool.Decides.{nat_tests}
-use Rattle.std.proofs.lemmas.List.Sums.{sum_by-cons, sum_by-append}
-use Rattle.cr_match.specs.declared.search.Slot.{Slot}
-use Rattle.cr_match.specs.Slack.{AllSuit, has_paper, has_member}
-use Rattle.cr_match.specs.Labels.{slot, Alike, InShape}
-use Rattle.cr_match.specs.Copies.{marks}
-use Rattle.cr_match.specs.Earlier.{AllInside}
-use Rattle.cr_match.proofs.Alike.{bit, shape_first, shape_rest}
-
-pub inside_shape : (papers members : ℕ) (ss : List Slot) → AllInside papers members ss → InShape papers members ss
-inside_shape papers members [] h k d lt = absurd (let z : length {A = Slot} [] ≡ 0 = refl in omega (arith, lt, z))
-inside_shape papers members (s ∷ ss) h zero d lt = (h.0, h.1)
-inside_shape papers members (s ∷ ss) h (suc k) d lt =
-    inside_shape papers members ss h.2 k d (let l : length (s ∷ ss) ≡ suc (length ss) = refl in omega (arith, lt, l))
-
-pub shape_inside : (papers members : ℕ) (ss : List Slot) → InShape papers members ss → AllInside papers members ss
-shape_inside papers members [] h = tt
-shape_inside papers members (s ∷ ss) h =
-    let f : (s.paper < papers) × (s.member < members) = shape_first papers members s ss h in
-    (f.0, f.1, shape_inside papers members ss (shape_rest papers members s ss h))
-
-pub inside_append : (papers members : ℕ) (xs ys : List Slot) → AllInside papers members xs → AllInside papers members ys
-    → AllInside papers members (xs ++ ys)
-inside_append papers members [] ys h k = k
-inside_append papers members (x ∷ xs) ys h k = (h.0, h.1, inside_append papers members xs ys h.2 k)
-
-pub inside_front : (papers members : ℕ) (xs ys : List Slot) → AllInside papers members (xs ++ ys)
-    → AllInside papers members xs
-inside_front papers members [] ys h = tt
-inside_front papers members (x ∷ xs) ys h = (h.0, h.1, inside_front papers members xs ys h.2)
-
-pub inside_back : (papers members : ℕ) (xs ys : List Slot) → AllInside papers members (xs ++ ys)
-    → AllInside papers members ys
-inside_back papers members [] ys h = h
-inside_back papers members (x ∷ xs) ys h = inside_back papers members xs ys h.2
+use Rattle.cr_match.proofs.Common.{Bool, true, false, ◌&&◌, ◌≡◌, ℕ, zero, suc, ◌+◌, ◌<◌, ◌≤◌, ◌==◌, List, [], ◌∷◌}
+use Rattle.cr_match.proofs.Common.{◌++◌, length, count_by, take, drop, get_or, refl, arith, ap, sym, ◌∙◌, nat_tests}
+use Rattle.cr_match.proofs.Common.{sum_by-cons, sum_by-append, Slot, has_paper, has_member, slot, Alike, marks}
+use Rattle.cr_match.proofs.Common.{AllInside}
+use Rattle.cr_match.proofs.Alike.{bit}
 
 pub inside_alike : (papers members : ℕ) (ss ts : List Slot) → Alike ss ts → AllInside papers members ss
     → AllInside papers members ts
@@ -44,24 +12,6 @@ inside_alike papers members [] (t ∷ ts) h k = absurd h
 inside_alike papers members (s ∷ ss) [] h k = absurd h
 inside_alike papers members (s ∷ ss) (t ∷ ts) h k =
     (omega (arith, h.0, k.0), omega (arith, h.1, k.1), inside_alike papers members ss ts h.3 k.2)
-
-pub inside_wider : (papers members p m : ℕ) (ss : List Slot) → papers ≤ p → members ≤ m → AllInside papers members ss
-    → AllInside p m ss
-inside_wider papers members p m [] lp lm h = tt
-inside_wider papers members p m (s ∷ ss) lp lm h =
-    (omega (arith, lp, h.0), omega (arith, lm, h.1), inside_wider papers members p m ss lp lm h.2)
-
-pub suits_append : (a b : List ℕ) (xs ys : List Slot) → AllSuit a b xs → AllSuit a b ys → AllSuit a b (xs ++ ys)
-suits_append a b [] ys h k = k
-suits_append a b (x ∷ xs) ys h k = (h.0, suits_append a b xs ys h.1 k)
-
-pub suits_front : (a b : List ℕ) (xs ys : List Slot) → AllSuit a b (xs ++ ys) → AllSuit a b xs
-suits_front a b [] ys h = tt
-suits_front a b (x ∷ xs) ys h = (h.0, suits_front a b xs ys h.1)
-
-pub suits_back : (a b : List ℕ) (xs ys : List Slot) → AllSuit a b (xs ++ ys) → AllSuit a b ys
-suits_back a b [] ys h = h
-suits_back a b (x ∷ xs) ys h = suits_back a b xs ys h.1
 
 -- counts
 
@@ -121,8 +71,7 @@ pub alike_parts : (xs ys ts : List Slot) → Alike (xs ++ ys) ts →
 alike_parts [] ys ts h = (tt, h, refl)
 alike_parts (x ∷ xs) ys [] h = absurd h
 alike_parts (x ∷ xs) ys (t ∷ ts) h =
-    let r : Alike xs (take (length xs) ts) × Alike ys (drop (length xs) ts)
-    × (ts ≡ take (length xs) ts ++ drop (length xs) ts) = alike_parts xs ys ts h.3 in
+    let r = alike_parts xs ys ts h.3 in
     ((h.0, h.1, h.2, r.0), r.1, ap (λ (us : List Slot). t ∷ us) r.2)
 
 pub alike_symm : (ss ts : List Slot) → Alike ss ts → Alike ts ss
@@ -149,8 +98,8 @@ same_marks [] [] h e = refl
 same_marks [] (t ∷ ts) h e = absurd h
 same_marks (s ∷ ss) [] h e = absurd h
 same_marks (s ∷ ss) (t ∷ ts) h e =
-    let one : t ≡ s = slot_eq s t h.0 h.1 h.2 (first_mark t.chosen s.chosen (marks ts) (marks ss) e) in
-    let more : ts ≡ ss = same_marks ss ts h.3 (other_marks t.chosen s.chosen (marks ts) (marks ss) e) in
+    let one = slot_eq s t h.0 h.1 h.2 (first_mark t.chosen s.chosen (marks ts) (marks ss) e) in
+    let more = same_marks ss ts h.3 (other_marks t.chosen s.chosen (marks ts) (marks ss) e) in
     ap (λ (x : Slot). x ∷ ts) one ∙ ap (λ (xs : List Slot). s ∷ xs) more
 
 pub marks_take : (i : ℕ) (ss : List Slot) → marks (take i ss) ≡ take i (marks ss)

@@ -1,14 +1,9 @@
 -- The papers without a label, as a list that refutes every plan.
-use Rattle.std.proofs.Common.{◌≡◌, ℕ, zero, suc, ◌+◌, ◌*◌, ◌<◌, ◌≤◌, Bool, true, false, cond, ◌&&◌, ◌||◌, ◌==◌, List}
-use Rattle.std.proofs.Common.{[], ◌∷◌, length, count_by, min, get_or, refl, arith, ap, sym, ◌∙◌, sum, subst}
-use Rattle.std.proofs.lemmas.Bool.Decides.{nat_tests}
-use Rattle.std.proofs.lemmas.List.Sums.{sum_by-cons}
-use Rattle.cr_match.specs.declared.problem.Pair.{Pair}
-use Rattle.cr_match.specs.declared.search.Slot.{Slot}
-use Rattle.cr_match.specs.Plan.{among, joins, total_below, DistinctBelow, IsTooMuch, MembersBelow}
-use Rattle.cr_match.specs.Labels.{bare, cut_slot, zeros}
-use Rattle.cr_match.specs.Copies.{AreBy, IsFlat}
-use Rattle.cr_match.specs.Answer.{AreInside}
+use Rattle.cr_match.proofs.Common.{◌≡◌, ℕ, zero, suc, ◌+◌, ◌*◌, ◌<◌, ◌≤◌, Bool, true, false, cond, ◌&&◌, ◌||◌, ◌==◌}
+use Rattle.cr_match.proofs.Common.{List, [], ◌∷◌, length, count_by, min, get_or, refl, arith, ap, sym, ◌∙◌, sum}
+use Rattle.cr_match.proofs.Common.{subst, nat_tests, sum_by-cons, Pair, Slot, among, joins, total_below}
+use Rattle.cr_match.proofs.Common.{DistinctBelow, IsTooMuch, MembersBelow, bare, cut_slot, zeros, AreBy, IsFor}
+use Rattle.cr_match.proofs.Common.{AreInside}
 use Rattle.cr_match.proofs.Duality.{count-cons}
 use Rattle.cr_match.proofs.Room.{total_below_same}
 use Rattle.cr_match.proofs.Alike.{bit}
@@ -89,14 +84,13 @@ members_below papers members (e ∷ es) h = (h.1, members_below papers members e
 -- pairs of those papers, and their slots
 
 cut_counts : (papers members : ℕ) (labels : List ℕ) (m : ℕ) (es : List Pair) (ss : List Slot)
-    → AreInside papers members es → papers ≡ length labels → AreBy IsFlat es ss →
+    → AreInside papers members es → papers ≡ length labels → AreBy IsFor es ss →
     count_by (joins (zeros labels 0) m) es ≡ count_by (cut_slot labels m) ss
 cut_counts papers members labels m [] [] i l h = refl
 cut_counts papers members labels m [] (s ∷ ss) i l h = absurd h
 cut_counts papers members labels m (e ∷ es) [] i l h = absurd h
 cut_counts papers members labels m (e ∷ es) (s ∷ ss) i l h =
-    let z : among (zeros labels 0) e.paper ≡ (get_or labels e.paper 0 == 0) =
-    among_zeros labels 0 e.paper e.paper (omega arith) (omega (arith, i.0, l)) in
+    let z = among_zeros labels 0 e.paper e.paper (omega arith) (omega (arith, i.0, l)) in
     let one : bit (joins (zeros labels 0) m e) ≡ bit (cut_slot labels m s) =
     ap (λ b. bit (b && (e.member == m))) z
     ∙ sym (ap (λ q. bit ((get_or labels q 0 == 0) && (s.member == m))) h.0.0
@@ -110,14 +104,12 @@ cut_counts papers members labels m (e ∷ es) (s ∷ ss) i l h =
     )
 
 pub short-too_much : (papers members want load : ℕ) (labels : List ℕ) (es : List Pair) (ss : List Slot)
-    → AreInside papers members es → papers ≡ length labels → AreBy IsFlat es ss →
+    → AreInside papers members es → papers ≡ length labels → AreBy IsFor es ss →
     total_below (λ m. min load (count_by (cut_slot labels m) ss)) members < want * sum (bare labels) →
     IsTooMuch papers members want load (zeros labels 0) es
 short-too_much papers members want load labels es ss inside long are short =
     let n : want * length (zeros labels 0) ≡ want * sum (bare labels) = ap (λ k. want * k) (zeros_length labels 0) in
-    let same : total_below (λ m. min load (count_by (joins (zeros labels 0) m) es)) members
-    ≡ total_below (λ m. min load (count_by (cut_slot labels m) ss)) members =
-    total_below_same (λ m. min load (count_by (joins (zeros labels 0) m) es))
+    let same = total_below_same (λ m. min load (count_by (joins (zeros labels 0) m) es))
     (λ m. min load (count_by (cut_slot labels m) ss)) members
     (λ m. ap (min load) (cut_counts papers members labels m es ss inside long are)) in
     record {

@@ -1,11 +1,9 @@
 -- Papers for which the members have too little room refute every plan.
-use Rattle.std.proofs.Common.{◌≡◌, ℕ, zero, suc, ◌+◌, ◌*◌, ◌<◌, ◌≤◌, Bool, true, false, cond, ◌&&◌, ◌||◌, List, [], ◌∷◌}
-use Rattle.std.proofs.Common.{length, count_by, ◌==◌, min, refl, arith, ap}
-use Rattle.std.proofs.lemmas.Bool.Decides.{nat_tests}
+use Rattle.cr_match.proofs.Common.{◌≡◌, ℕ, zero, suc, ◌+◌, ◌*◌, ◌<◌, ◌≤◌, Bool, true, false, cond, ◌&&◌, ◌||◌, List}
+use Rattle.cr_match.proofs.Common.{[], ◌∷◌, length, count_by, ◌==◌, min, refl, arith, ap, nat_tests, Pair, kept}
+use Rattle.cr_match.proofs.Common.{of_paper, of_member, IsPlan, MembersBelow, among, joins, total_below}
+use Rattle.cr_match.proofs.Common.{DistinctBelow, IsTooMuch}
 use Rattle.std.proofs.lemmas.List.Sums.{sum_by-le-sum_by}
-use Rattle.cr_match.specs.declared.problem.Pair.{Pair}
-use Rattle.cr_match.specs.Plan.{kept, of_paper, of_member, IsPlan, MembersBelow, among, joins, total_below}
-use Rattle.cr_match.specs.Plan.{DistinctBelow, IsTooMuch}
 use Rattle.cr_match.proofs.Duality.{count-cons, one_at, sum_by-kept-le}
 
 pub total_below_same : (f g : ℕ → ℕ) (n : ℕ) → ((q : ℕ) → f q ≡ g q) → total_below f n ≡ total_below g n
@@ -89,7 +87,7 @@ full_papers papers want (x ∷ s) es d h =
 
 -- each pair has one member
 
-pick_member : (b : Bool) (r n : ℕ) → r < n → total_below (λ m. cond (b && (r == m)) 1 0) n ≡ cond b 1 0
+pub pick_member : (b : Bool) (r n : ℕ) → r < n → total_below (λ m. cond (b && (r == m)) 1 0) n ≡ cond b 1 0
 pick_member true r n h = total_below_one r n h
 pick_member false r n h = total_below_none n
 
@@ -97,9 +95,7 @@ by_member : (members : ℕ) (s : List ℕ) (es : List Pair) → MembersBelow mem
     total_below (λ m. count_by (joins s m) es) members ≡ count_by (λ e. among s e.paper) es
 by_member members s [] h = total_below_none members
 by_member members s (e ∷ es) h =
-    let split : total_below (λ m. count_by (joins s m) (e ∷ es)) members
-    ≡ total_below (λ m. cond (joins s m e) 1 0 + count_by (joins s m) es) members =
-    total_below_same (λ m. count_by (joins s m) (e ∷ es)) (λ m. cond (joins s m e) 1 0 + count_by (joins s m) es)
+    let split = total_below_same (λ m. count_by (joins s m) (e ∷ es)) (λ m. cond (joins s m e) 1 0 + count_by (joins s m) es)
     members (λ m. count-cons (joins s m) e es) in
     omega (
       arith,

@@ -1,332 +1,208 @@
--- A step along the labels: one slot is chosen, one of the same member is let go, and what the search keeps still holds.
-use Rattle.std.proofs.Common.{◌≡◌, ◌≢◌, ℕ, zero, suc, ◌+◌, ◌-◌, ◌<◌, ◌≤◌, Bool, true, false, cond, ◌==◌, List, [], ◌∷◌}
-use Rattle.std.proofs.Common.{length, count_by, get_or, set, length-set, get_or-set_other, arith, ap, sym, ◌∙◌, subst}
-use Rattle.std.proofs.lemmas.List.Sums.{sum_by-set}
-use Rattle.cr_match.specs.declared.search.Slot.{Slot}
-use Rattle.cr_match.specs.Slack.{price, AllSuit, excess_value, has_paper, has_member}
-use Rattle.cr_match.specs.Labels.{slot, Leads, LeadsBack, LabelsFit, Alike}
+-- What becomes of a pair when it is settled.
+use Rattle.cr_match.proofs.Common.{◌≡◌, ◌≢◌, ◌↔◌, ℕ, ◌+◌, ◌<◌, ◌≤◌, ◌&&◌, ◌==◌, cond, Bool, true, false, List, length}
+use Rattle.cr_match.proofs.Common.{count_by, take, get_or, refl, arith, ap, sym, ◌∙◌, subst, get_or_default, Board}
+use Rattle.cr_match.proofs.Common.{Levels, Draft, Pair, Problem, Trail, AreInside, AreDistinct, IsProblem, worth}
+use Rattle.cr_match.proofs.Common.{price_of, marks, Holds, IsDraft, zero_pair, nth, IsTable, IsBoardOf}
+use Rattle.cr_match.proofs.Common.{is_held, slots, IsSettling, Closes, SameBefore, IsBlocked, Slot, has_paper}
+use Rattle.std.proofs.lemmas.List.{length-take}
+use Rattle.std.proofs.lemmas.List.Sums.{count_by-le-length}
+use Rattle.cr_match.proofs.Common.{Has}
+use Rattle.cr_match.specs.Search.{IsSearched}
+use Rattle.cr_match.specs.Settle.{Brings}
+use Rattle.cr_match.proofs.Blocked.{settled_out}
+use Rattle.cr_match.proofs.Brought.{brought, brought_before}
+use Rattle.cr_match.proofs.Alike.{bit, zero_slot}
+use Rattle.cr_match.proofs.Held.{is_held_if, not_held_if, inside_at, slots_alike, slots_at, slots_length}
+use Rattle.cr_match.proofs.Sooner.{count_more}
+use Rattle.cr_match.proofs.Redrawn.{same_holds}
+use Rattle.cr_match.proofs.Settled.{same_slots, bp, bm, closed_searched, closing, settled_held, settled_low, settled_full}
 
-abbrev pub flipped : List Slot → ℕ → ℕ → ℕ → ℕ → Bool → List Slot
-flipped ss i p m v c = set ss i (slot p m v c)
+module _ (es : List Pair) (b : Board) (v : Levels) (i : ℕ) (inside : AreInside b.papers b.members es)
+    (apart : AreDistinct es) (li : i < length es) (table : IsTable es b) (c d : Draft) (h : IsSettling es b v c i i)
+    (x : Pair) (is : x ≡ nth es i) (t : Closes x.paper x.member c d) where
+  closes : Closes (nth es i).paper (nth es i).member c d
+  closes = subst (λ (y : Pair). Closes y.paper y.member c d) is t
 
-choose_paper : (ss : List Slot) (i p m v q : ℕ) → i < length ss → ((d : Slot) → get_or ss i d ≡ slot p m v false) →
-    count_by (has_paper q) (flipped ss i p m v true) ≡ count_by (has_paper q) ss + cond (p == q) 1 0
-choose_paper ss i p m v q inside is =
-    let d : Slot = slot p m v false in
-    let f : Slot → ℕ = λ s. cond (has_paper q s) 1 0 in
-    let e : f (get_or ss i d) ≡ 0 = ap f (is d) in
-    omega (arith, e, sum_by-set f ss i (slot p m v true) d inside)
+  still : IsSettling es b v d (i + 1) i
+  still = closing es b v i inside apart li i c d h closes
 
-choose_member : (ss : List Slot) (i p m v q : ℕ) → i < length ss → ((d : Slot) → get_or ss i d ≡ slot p m v false) →
-    count_by (has_member q) (flipped ss i p m v true) ≡ count_by (has_member q) ss + cond (m == q) 1 0
-choose_member ss i p m v q inside is =
-    let d : Slot = slot p m v false in
-    let f : Slot → ℕ = λ s. cond (has_member q s) 1 0 in
-    let e : f (get_or ss i d) ≡ 0 = ap f (is d) in
-    omega (arith, e, sum_by-set f ss i (slot p m v true) d inside)
+  holds_same : Holds d (nth es i).paper (nth es i).member ↔ Holds c (nth es i).paper (nth es i).member
+  holds_same = same_holds c d (nth es i).paper (nth es i).member closes.sides.wide closes.held
 
-drop_paper : (ss : List Slot) (i p m v q : ℕ) → i < length ss → ((d : Slot) → get_or ss i d ≡ slot p m v true) →
-    count_by (has_paper q) (flipped ss i p m v false) + cond (p == q) 1 0 ≡ count_by (has_paper q) ss
-drop_paper ss i p m v q inside is =
-    let d : Slot = slot p m v false in
-    let f : Slot → ℕ = λ s. cond (has_paper q s) 1 0 in
-    let e : f (get_or ss i d) ≡ cond (p == q) 1 0 = ap f (is d) in
-    omega (arith, e, sum_by-set f ss i (slot p m v false) d inside)
+  pub before_same : SameBefore es i c d
+  before_same = ap (λ (ss : List Slot). take i (marks ss)) (same_slots c d es closes.sides.wide closes.held)
 
-drop_member : (ss : List Slot) (i p m v q : ℕ) → i < length ss → ((d : Slot) → get_or ss i d ≡ slot p m v true) →
-    count_by (has_member q) (flipped ss i p m v false) + cond (m == q) 1 0 ≡ count_by (has_member q) ss
-drop_member ss i p m v q inside is =
-    let d : Slot = slot p m v false in
-    let f : Slot → ℕ = λ s. cond (has_member q s) 1 0 in
-    let e : f (get_or ss i d) ≡ cond (m == q) 1 0 = ap f (is d) in
-    omega (arith, e, sum_by-set f ss i (slot p m v false) d inside)
+  pub step_held : Holds c x.paper x.member → IsSettling es b v d (i + 1) (i + 1) × (true ≡ is_held d (nth es i))
+  step_held has =
+      let now = holds_same.1 (subst (λ (y : Pair). Holds c y.paper y.member) is has) in
+      (settled_held es b v i inside apart li table d still now, sym (is_held_if d (nth es i) now))
 
--- a tight slot suits its prices either way
-flip_suits : (a b : List ℕ) (ss : List Slot) (i p m v : ℕ) (c : Bool) → v ≡ price a b (slot p m v c) → AllSuit a b ss
-    → AllSuit a b (flipped ss i p m v c)
-flip_suits a b [] i p m v c tight suit = suit
-flip_suits a b (s ∷ ss) zero p m v c tight suit = (((λ _. omega (arith, tight)), (λ _. omega (arith, tight))), suit.1)
-flip_suits a b (s ∷ ss) (suc i) p m v c tight suit = (suit.0, flip_suits a b ss i p m v c tight suit.1)
+  module _ (lacks : Holds c x.paper x.member → ⊥) where
+    pub lacks_now : Holds d (nth es i).paper (nth es i).member → ⊥
+    lacks_now has = lacks (subst (λ (y : Pair). Holds c y.paper y.member) (sym is) (holds_same.0 has))
 
--- and is the same slot
-pub alike_flip : (old ss : List Slot) (i p m v : ℕ) (c d : Bool) → ((e : Slot) → get_or ss i e ≡ slot p m v c)
-    → Alike old ss → Alike old (flipped ss i p m v d)
-alike_flip [] [] i p m v c d is h = h
-alike_flip [] (s ∷ ss) i p m v c d is h = absurd h
-alike_flip (o ∷ old) [] i p m v c d is h = absurd h
-alike_flip (o ∷ old) (s ∷ ss) zero p m v c d is h =
-    let e : s ≡ slot p m v c = is s in (
-      sym (ap (λ (x : Slot). x.paper) e) ∙ h.0,
-      sym (ap (λ (x : Slot). x.member) e) ∙ h.1,
-      sym (ap (λ (x : Slot). x.value) e) ∙ h.2,
-      h.3,
-    )
-alike_flip (o ∷ old) (s ∷ ss) (suc i) p m v c d is h = (h.0, h.1, h.2, alike_flip old ss i p m v c d is h.3)
+    out_now : false ≡ is_held d (nth es i)
+    out_now = sym (not_held_if d (nth es i) lacks_now)
 
-differ : (p q : ℕ) (labels : List ℕ) → get_or labels p 0 < get_or labels q 0 → p ≢ q
-differ p q labels h e =
-    absurd (let s : get_or labels p 0 ≡ get_or labels q 0 = ap (λ k. get_or labels k 0) e in omega (arith, s, h))
-
--- slots that are not one
-chosen_differ : (ss : List Slot) (i j p m v q n w : ℕ) → ((d : Slot) → get_or ss i d ≡ slot p m v false)
-    → ((d : Slot) → get_or ss j d ≡ slot q n w true) → i ≢ j
-chosen_differ ss i j p m v q n w hi hj e =
-    let d : Slot = slot p m v false in
-    let x : get_or ss i d ≡ get_or ss j d = ap (λ k. get_or ss k d) e in
-    let c : false ≡ true = ap (λ (s : Slot). s.chosen) (sym (hi d) ∙ x ∙ hj d) in
-    cc
-
-pub flip_excess : (x y : List ℕ) (ss : List Slot) (i p m v : ℕ) (c d : Bool) → i < length ss
-    → ((e : Slot) → get_or ss i e ≡ slot p m v c) →
-    excess_value x y (flipped ss i p m v d) ≡ excess_value x y ss
-flip_excess x y ss i p m v c d inside is =
-    let z : Slot = slot p m v false in
-    let f : Slot → ℕ = λ s. s.value - price x y s in
-    let e : f (get_or ss i z) ≡ f (slot p m v d) = ap f (is z) in
-    omega (arith, e, sum_by-set f ss i (slot p m v d) z inside)
-
-step_excess : (x y : List ℕ) (ss : List Slot) (i j p m v q w : ℕ) → i < length ss → j < length ss →
-    ((d : Slot) → get_or ss i d ≡ slot p m v false) → ((d : Slot) → get_or ss j d ≡ slot q m w true) →
-    excess_value x y (flipped (flipped ss i p m v true) j q m w false) ≡ excess_value x y ss
-step_excess x y ss i j p m v q w li lj hi hj =
-    let ne : j ≢ i = λ e. chosen_differ ss i j p m v q m w hi hj (sym e) in
-    let lj' : j < length (flipped ss i p m v true) = omega (arith, lj, length-set ss i (slot p m v true)) in
-    let hj' : (d : Slot) → get_or (flipped ss i p m v true) j d ≡ slot q m w true =
-    λ d. get_or-set_other ss i j (slot p m v true) d ne ∙ hj d in
-    flip_excess x y (flipped ss i p m v true) j q m w true false lj' hj' ∙ flip_excess x y ss i p m v false true li hi
-
--- two steps, from paper p over member m to paper q
-pub step_counts_papers : (ss : List Slot) (i j p m v q w r : ℕ) → i < length ss → j < length ss →
-    ((d : Slot) → get_or ss i d ≡ slot p m v false) → ((d : Slot) → get_or ss j d ≡ slot q m w true) →
-    count_by (has_paper r) (flipped (flipped ss i p m v true) j q m w false) + cond (q == r) 1 0
-    ≡ count_by (has_paper r) ss + cond (p == r) 1 0
-step_counts_papers ss i j p m v q w r li lj hi hj =
-    let ne : j ≢ i = λ e. chosen_differ ss i j p m v q m w hi hj (sym e) in
-    let lj' : j < length (flipped ss i p m v true) = omega (arith, lj, length-set ss i (slot p m v true)) in
-    let hj' : (d : Slot) → get_or (flipped ss i p m v true) j d ≡ slot q m w true =
-    λ d. get_or-set_other ss i j (slot p m v true) d ne ∙ hj d in
-    omega (arith, choose_paper ss i p m v r li hi, drop_paper (flipped ss i p m v true) j q m w r lj' hj')
-
-pub step_counts_members : (ss : List Slot) (i j p m v q w r : ℕ) → i < length ss → j < length ss →
-    ((d : Slot) → get_or ss i d ≡ slot p m v false) → ((d : Slot) → get_or ss j d ≡ slot q m w true) →
-    count_by (has_member r) (flipped (flipped ss i p m v true) j q m w false) ≡ count_by (has_member r) ss
-step_counts_members ss i j p m v q w r li lj hi hj =
-    let ne : j ≢ i = λ e. chosen_differ ss i j p m v q m w hi hj (sym e) in
-    let lj' : j < length (flipped ss i p m v true) = omega (arith, lj, length-set ss i (slot p m v true)) in
-    let hj' : (d : Slot) → get_or (flipped ss i p m v true) j d ≡ slot q m w true =
-    λ d. get_or-set_other ss i j (slot p m v true) d ne ∙ hj d in
-    omega (arith, choose_member ss i p m v r li hi, drop_member (flipped ss i p m v true) j q m w r lj' hj')
-
-pub step_suits : (a b : List ℕ) (ss : List Slot) (i j p m v q w : ℕ) → v ≡ price a b (slot p m v false)
-    → w ≡ price a b (slot q m w true) →
-    AllSuit a b ss → AllSuit a b (flipped (flipped ss i p m v true) j q m w false)
-step_suits a b ss i j p m v q w tv tw suit =
-    flip_suits a b (flipped ss i p m v true) j q m w false tw (flip_suits a b ss i p m v true tv suit)
-
--- and the labels below still fit
-pub step_labels : (load : ℕ) (a b lp lm np nm : List ℕ) (most : ℕ) (ss : List Slot) (p : ℕ) →
-    LabelsFit load a b lp lm np nm most ss → (s : Leads a b lp lm ss p (get_or np p 0))
-    → (t : LeadsBack a b lp lm ss s.member (get_or nm s.member 0)) →
-    get_or lp p 0 ≤ most →
-    LabelsFit load a b lp lm np nm (get_or lp t.paper 0)
-    (flipped (flipped ss (get_or np p 0) p s.member s.value true) (get_or nm s.member 0) t.paper s.member t.value
-    false)
-step_labels load a b lp lm np nm most ss p fit s t le =
-    let i : ℕ = get_or np p 0 in
-    let j : ℕ = get_or nm s.member 0 in
-    let same : (k : ℕ) → k ≢ get_or np p 0 → k ≢ get_or nm s.member 0 → (d : Slot) →
-    get_or (flipped (flipped ss (get_or np p 0) p s.member s.value true) (get_or nm s.member 0) t.paper s.member t.value
-    false) k d ≡ get_or ss k d =
-    λ k ni nj d. get_or-set_other (flipped ss (get_or np p 0) p s.member s.value true) (get_or nm s.member 0) k
-    (slot t.paper s.member t.value false) d nj
-    ∙ get_or-set_other ss (get_or np p 0) k (slot p s.member s.value true) d ni in
-    let len : length (flipped (flipped ss (get_or np p 0) p s.member s.value true) (get_or nm s.member 0) t.paper
-    s.member t.value false) ≡ length ss =
-    length-set (flipped ss (get_or np p 0) p s.member s.value true) (get_or nm s.member 0)
-    (slot t.paper s.member t.value false) ∙ length-set ss (get_or np p 0) (slot p s.member s.value true) in
-    record {
-      papers = λ r some low.
-          let most' : get_or lp r 0 ≤ most = omega (arith, low, le, t.lower, s.lower) in
-          let u : Leads a b lp lm ss r (get_or np r 0) = fit.papers r some most' in
-          let below : get_or lp r 0 < get_or lp p 0 = omega (arith, low, t.lower, s.lower) in
-          let ni : get_or np r 0 ≢ get_or np p 0 = λ e. differ r p lp below
-          (let d : Slot = slot p s.member s.value false in ap (λ (x : Slot). x.paper)
-          (sym (u.is d) ∙ ap (λ k. get_or ss k d) e ∙ s.is d)) in
-          let nj : get_or np r 0 ≢ get_or nm s.member 0 = chosen_differ ss (get_or np r 0) (get_or nm s.member 0) r
-          u.member u.value t.paper s.member t.value u.is t.is in
-          record {
-            member = u.member;
-            value = u.value;
-            inside = omega (arith, u.inside, len);
-            is = λ d. same (get_or np r 0) ni nj d ∙ u.is d;
-            tight = u.tight;
-            labelled = u.labelled;
-            lower = u.lower;
-          };
-      members = λ r some low.
-          let most' : get_or lm r 0 ≤ most = omega (arith, low, le, t.lower, s.lower) in
-          let u : LeadsBack a b lp lm ss r (get_or nm r 0) = fit.members r some most' in
-          let below : get_or lm r 0 < get_or lm s.member 0 = omega (arith, low, t.lower, s.lower) in
-          let nj : get_or nm r 0 ≢ get_or nm s.member 0 = λ e. differ r s.member lm below
-          (let d : Slot = slot p s.member s.value false in ap (λ (x : Slot). x.member)
-          (sym (u.is d) ∙ ap (λ k. get_or ss k d) e ∙ t.is d)) in
-          let ni : get_or nm r 0 ≢ get_or np p 0 = λ e. chosen_differ ss (get_or np p 0) (get_or nm r 0) p s.member
-          s.value u.paper r u.value s.is u.is (sym e) in
-          record {
-            paper = u.paper;
-            value = u.value;
-            inside = omega (arith, u.inside, len);
-            is = λ d. same (get_or nm r 0) ni nj d ∙ u.is d;
-            tight = u.tight;
-            labelled = u.labelled;
-            lower = u.lower;
-          };
-      room = λ r one. let c : count_by (has_member r)
-          (flipped (flipped ss (get_or np p 0) p s.member s.value true) (get_or nm s.member 0) t.paper s.member t.value
-          false) ≡ count_by (has_member r) ss =
-          step_counts_members ss (get_or np p 0) (get_or nm s.member 0) p s.member s.value t.paper t.value r s.inside
-          t.inside s.is t.is in
-          omega (arith, c, fit.room r one);
-    }
-
--- the same, of what the code reads and writes
-
-abbrev pub zero_slot : Slot
-zero_slot = slot 0 0 0 false
-
-read_choose : (ss : List Slot) (i p m v : ℕ) (x : Slot) → x ≡ slot p m v false →
-    set ss i (slot x.paper x.member x.value true) ≡ flipped ss i p m v true
-read_choose ss i p m v x e = ap (λ (x : Slot). set ss i (slot x.paper x.member x.value true)) e
-
-pub last_suits : (load : ℕ) (a b lp lm np nm : List ℕ) (ss : List Slot) (p : ℕ) → 0 < get_or lp p 0 → AllSuit a b ss →
-    LabelsFit load a b lp lm np nm (get_or lp p 0) ss → (x : Slot) → x ≡ get_or ss (get_or np p 0) zero_slot →
-    AllSuit a b (set ss (get_or np p 0) (slot x.paper x.member x.value true))
-last_suits load a b lp lm np nm ss p some suit fit x is =
-    let u : Leads a b lp lm ss p (get_or np p 0) = fit.papers p some (omega arith) in
-    subst (AllSuit a b) (sym (read_choose ss (get_or np p 0) p u.member u.value x (is ∙ u.is zero_slot)))
-    (flip_suits a b ss (get_or np p 0) p u.member u.value true u.tight suit)
-
-pub last_member : (load : ℕ) (a b lp lm np nm : List ℕ) (ss old : List Slot) (p : ℕ) → 0 < get_or lp p 0 →
-    LabelsFit load a b lp lm np nm (get_or lp p 0) ss
-    → ((r : ℕ) → count_by (has_member r) ss ≡ count_by (has_member r) old) →
-    (x : Slot) → x ≡ get_or ss (get_or np p 0) zero_slot → get_or lm x.member 0 ≡ 1 →
-    (m : ℕ) × (count_by (has_member m) old < load)
-    × ((r : ℕ) → count_by (has_member r) (set ss (get_or np p 0) (slot x.paper x.member x.value true))
-    ≡ count_by (has_member r) old + cond (m == r) 1 0)
-last_member load a b lp lm np nm ss old p some fit same x is one =
-    let u : Leads a b lp lm ss p (get_or np p 0) = fit.papers p some (omega arith) in
-    let e : x ≡ slot p u.member u.value false = is ∙ u.is zero_slot in
-    let lone : get_or lm u.member 0 ≡ 1 = ap (λ (s : Slot). get_or lm s.member 0) (sym e) ∙ one in (
-      u.member,
-      omega (arith, fit.room u.member lone, same u.member),
-      λ r. ap (count_by (has_member r)) (read_choose ss (get_or np p 0) p u.member u.value x e)
-          ∙ (let n : count_by (has_member r) (flipped ss (get_or np p 0) p u.member u.value true)
-          ≡ count_by (has_member r) old + cond (u.member == r) 1 0 =
-          omega (arith, choose_member ss (get_or np p 0) p u.member u.value r u.inside u.is, same r) in n),
+    pub step_low : worth b x.paper x.member ≢ price_of v x.paper x.member
+        → IsSettling es b v d (i + 1) (i + 1) × (false ≡ is_held d (nth es i))
+    step_low ne = (
+      settled_low es b v i inside apart li table d still lacks_now
+          (λ e. ne (subst (λ (y : Pair). worth b y.paper y.member ≡ price_of v y.paper y.member) (sym is) e)),
+      out_now,
     )
 
-pub last_end : (load : ℕ) (a b lp lm np nm : List ℕ) (ss old : List Slot) (p : ℕ) → 0 < get_or lp p 0 →
-    LabelsFit load a b lp lm np nm (get_or lp p 0) ss
-    → ((r : ℕ) → count_by (has_member r) ss ≡ count_by (has_member r) old) →
-    (x : Slot) → x ≡ get_or ss (get_or np p 0) zero_slot → get_or lm x.member 0 ≡ 1 →
-    (m : ℕ) × (get_or lm m 0 ≡ 1)
-    × ((r : ℕ) → count_by (has_member r) (set ss (get_or np p 0) (slot x.paper x.member x.value true))
-    ≡ count_by (has_member r) old + cond (m == r) 1 0)
-last_end load a b lp lm np nm ss old p some fit same x is one =
-    let u : Leads a b lp lm ss p (get_or np p 0) = fit.papers p some (omega arith) in
-    let e : x ≡ slot p u.member u.value false = is ∙ u.is zero_slot in (
-      u.member,
-      ap (λ (s : Slot). get_or lm s.member 0) (sym e) ∙ one,
-      λ r. ap (count_by (has_member r)) (read_choose ss (get_or np p 0) p u.member u.value x e)
-          ∙ (let n : count_by (has_member r) (flipped ss (get_or np p 0) p u.member u.value true)
-          ≡ count_by (has_member r) old + cond (u.member == r) 1 0 =
-          omega (arith, choose_member ss (get_or np p 0) p u.member u.value r u.inside u.is, same r) in n),
+    pub step_full : (kept : List ℕ) → ((q : ℕ) → q < b.papers → get_or kept q 0 ≡ count_by (has_paper q) (take i (slots c es)))
+        → b.want ≤ get_or kept x.paper 0 → IsSettling es b v d (i + 1) (i + 1) × (false ≡ is_held d (nth es i))
+    step_full kept counts full =
+        let n = counts (nth es i).paper (bp es b v i inside apart li)
+        ∙ ap (λ (ss : List Slot). count_by (has_paper (nth es i).paper) (take i ss))
+        (sym (same_slots c d es closes.sides.wide closes.held)) in
+        let le : b.want ≤ get_or kept (nth es i).paper 0 = subst (λ (y : Pair). b.want ≤ get_or kept y.paper 0) is full in
+        (settled_full es b v i inside apart li table d still lacks_now (omega (arith, le, n)), out_now)
+
+    -- what a search asks
+    pub ready : IsDraft b.want b.load d × (x.paper < d.moves.papers) × (x.member < d.moves.members)
+        × (get_or d.given.items x.paper 0 ≡ b.want)
+    ready = subst (λ (y : Pair). IsDraft b.want b.load d × (y.paper < d.moves.papers) × (y.member < d.moves.members)
+        × (get_or d.given.items y.paper 0 ≡ b.want)) (sym is) (
+          still.best.draft,
+          omega (arith, bp es b v i inside apart li, still.best.alike.papers.1),
+          omega (arith, bm es b v i inside apart li, still.best.alike.members.1),
+          still.best.full (nth es i).paper (bp es b v i inside apart li),
+        )
+
+    module _ (tight : worth b x.paper x.member ≡ price_of v x.paper x.member) where
+      tight_now : worth b (nth es i).paper (nth es i).member ≡ price_of v (nth es i).paper (nth es i).member
+      tight_now = subst (λ (y : Pair). worth b y.paper y.member ≡ price_of v y.paper y.member) is tight
+
+      pub step_blocked : (trail : Trail) → IsBlocked x.paper x.member d trail
+          → IsSettling es b v d (i + 1) (i + 1) × (false ≡ is_held d (nth es i))
+      step_blocked trail blocked = (
+        settled_out es b v i inside apart li table d still trail
+            (subst (λ (y : Pair). IsBlocked y.paper y.member d trail) is blocked) lacks_now tight_now,
+        out_now,
+      )
+
+      pub step_brought : (e : Draft) → IsDraft b.want b.load e → Brings b.load x.paper x.member d e
+          → IsSettling es b v e (i + 1) (i + 1) × SameBefore es i c e × (true ≡ is_held e (nth es i))
+      step_brought e he brings' =
+          let brings : Brings b.load (nth es i).paper (nth es i).member d e =
+          subst (λ (y : Pair). Brings b.load y.paper y.member d e) is brings' in (
+            brought es b v i inside apart li table d brings.0 e still brings.1 brings.2 he tight_now,
+            brought_before es b v i inside apart li table d brings.0 e still brings.1 brings.2 he tight_now ∙ before_same,
+            sym (is_held_if e (nth es i) brings.2.here.0),
+          )
+
+pub inside_of : (problem : Problem) (b : Board) → IsProblem problem → IsBoardOf problem b
+    → AreInside b.papers b.members problem.pairs.items
+inside_of problem b fine of =
+    subst (λ n. AreInside n b.members problem.pairs.items) (sym of.sides.0)
+    (subst (λ n. AreInside problem.papers n problem.pairs.items) (sym of.sides.1) fine.inside)
+
+-- the places of a pair
+pub pair_inside : (problem : Problem) (b : Board) (i : ℕ) (x : Pair) → IsProblem problem → IsBoardOf problem b
+    → i < length problem.pairs.items → x ≡ nth problem.pairs.items i → (x.paper < b.papers) × (x.member < b.members)
+pair_inside problem b i x fine of li is =
+    let w = inside_at b.papers b.members problem.pairs.items (inside_of problem b fine of) i li in
+    subst (λ (y : Pair). (y.paper < b.papers) × (y.member < b.members)) (sym is) (w.0, w.1)
+
+-- the same of a problem
+module _ (problem : Problem) (b : Board) (v : Levels) (i : ℕ) (fine : IsProblem problem) (of : IsBoardOf problem b)
+    (li : i < length problem.pairs.items) (c d : Draft) (h : IsSettling problem.pairs.items b v c i i) (x : Pair)
+    (is : x ≡ nth problem.pairs.items i) (t : Closes x.paper x.member c d) where
+  pub on_same : SameBefore problem.pairs.items i c d
+  on_same = before_same problem.pairs.items b v i (inside_of problem b fine of) fine.distinct li of.table c d h x is t
+
+  pub on_held : Holds c x.paper x.member
+      → IsSettling problem.pairs.items b v d (i + 1) (i + 1) × (true ≡ is_held d (nth problem.pairs.items i))
+  on_held = step_held problem.pairs.items b v i (inside_of problem b fine of) fine.distinct li of.table c d h x is t
+
+  pub on_low : (Holds c x.paper x.member → ⊥) → worth b x.paper x.member ≢ price_of v x.paper x.member
+      → IsSettling problem.pairs.items b v d (i + 1) (i + 1) × (false ≡ is_held d (nth problem.pairs.items i))
+  on_low = step_low problem.pairs.items b v i (inside_of problem b fine of) fine.distinct li of.table c d h x is t
+
+  pub on_full : (Holds c x.paper x.member → ⊥) → (kept : List ℕ)
+      → ((q : ℕ) → q < b.papers → get_or kept q 0 ≡ count_by (has_paper q) (take i (slots c problem.pairs.items)))
+      → b.want ≤ get_or kept x.paper 0
+      → IsSettling problem.pairs.items b v d (i + 1) (i + 1) × (false ≡ is_held d (nth problem.pairs.items i))
+  on_full = step_full problem.pairs.items b v i (inside_of problem b fine of) fine.distinct li of.table c d h x is t
+
+  pub on_lacks : (Holds c x.paper x.member → ⊥) → Holds d x.paper x.member → ⊥
+  on_lacks lacks has = lacks ((same_holds c d x.paper x.member t.sides.wide t.held).0 has)
+
+  pub on_ready : (Holds c x.paper x.member → ⊥) → IsDraft b.want b.load d × (x.paper < d.moves.papers)
+      × (x.member < d.moves.members) × (get_or d.given.items x.paper 0 ≡ b.want)
+  on_ready = ready problem.pairs.items b v i (inside_of problem b fine of) fine.distinct li of.table c d h x is t
+
+  pub on_blocked : (Holds c x.paper x.member → ⊥) → worth b x.paper x.member ≡ price_of v x.paper x.member
+      → (trail : Trail) → IsBlocked x.paper x.member d trail
+      → IsSettling problem.pairs.items b v d (i + 1) (i + 1) × (false ≡ is_held d (nth problem.pairs.items i))
+  on_blocked = step_blocked problem.pairs.items b v i (inside_of problem b fine of) fine.distinct li of.table c d h x is t
+
+  pub on_brought : (Holds c x.paper x.member → ⊥) → worth b x.paper x.member ≡ price_of v x.paper x.member
+      → (e : Draft) → IsDraft b.want b.load e → Brings b.load x.paper x.member d e
+      → IsSettling problem.pairs.items b v e (i + 1) (i + 1) × SameBefore problem.pairs.items i c e
+      × (true ≡ is_held e (nth problem.pairs.items i))
+  on_brought = step_brought problem.pairs.items b v i (inside_of problem b fine of) fine.distinct li of.table c d h x is t
+
+  -- a search for its paper is still done
+  pub on_trail : (u : Trail) (s : ℕ) → s ≡ x.paper → IsSearched c.moves x.paper u → IsSearched d.moves s u
+  on_trail u s e search =
+      let w = pair_inside problem b i x fine of li is in
+      subst (λ n. IsSearched d.moves n u) (sym e) (closed_searched b.want b.load x.paper x.member c d t h.best.draft
+      (omega (arith, w.0, h.best.alike.papers.1)) (omega (arith, w.1, h.best.alike.members.1)) u search)
+
+  -- whether a search brought it in
+  pub on_searched : (Holds c x.paper x.member → ⊥) → worth b x.paper x.member ≡ price_of v x.paper x.member
+      → (trail : Trail) (e : Draft) (found : Bool) → IsDraft b.want b.load e
+      → (found ≡ true → Brings b.load x.paper x.member d e) → (found ≡ false → ◌≡◌ {A = Draft} e d)
+      → IsSearched e.moves x.paper trail → (found ≡ false → Has trail.members.items x.member)
+      → IsSettling problem.pairs.items b v e (i + 1) (i + 1) × SameBefore problem.pairs.items i c e
+      × (found ≡ is_held e (nth problem.pairs.items i))
+  on_searched lacks tight trail e true he brings same search seen = on_brought lacks tight e he (brings refl)
+  on_searched lacks tight trail e false he brings same search seen =
+      let out = on_blocked lacks tight trail (record {
+        search = subst (λ (k : Draft). IsSearched k.moves x.paper trail) (same refl) search;
+        member = seen refl;
+      }) in
+      subst (λ (k : Draft). IsSettling problem.pairs.items b v k (i + 1) (i + 1) × SameBefore problem.pairs.items i c k
+      × (false ≡ is_held k (nth problem.pairs.items i))) (sym (same refl)) (out.0, on_same, out.1)
+
+pub pair_is : (es : List Pair) (i : ℕ) (x : Pair) → x ≡ get_or es i x → i < length es → x ≡ nth es i
+pair_is es i x e lt = e ∙ get_or_default es i x zero_pair lt
+
+-- a test that failed
+pub refuted : (c : Bool) (A : Type 0) → (A → c ≡ true) → c ≡ false → A → ⊥
+refuted c A yes' no' a = absurd (let e = sym (yes' a) ∙ no' in cc)
+
+-- how many members papers have among the pairs before the i-th, and one more
+pub kept_small : (es : List Pair) (d : Draft) (i q : ℕ) (kept : List ℕ) → length es ≤ 4096
+    → get_or kept q 0 ≡ count_by (has_paper q) (take i (slots d es)) → get_or kept q 0 < 2147483648
+kept_small es d i q kept few is =
+    omega (
+      arith,
+      is,
+      few,
+      count_by-le-length (has_paper q) (take i (slots d es)),
+      length-take i (slots d es),
+      slots_length d es,
     )
 
-abbrev pub Walking : ℕ → List ℕ → List ℕ → List ℕ → List ℕ → List ℕ → List ℕ → List Slot → ℕ → List Slot → ℕ → Type 0
-Walking load a b lp lm np nm old from ss p =
-    (0 < get_or lp p 0)
-    × AllSuit a b ss
-    × LabelsFit load a b lp lm np nm (get_or lp p 0) ss
-    × ((r : ℕ) → count_by (has_paper r) ss + cond (p == r) 1 0 ≡ count_by (has_paper r) old + cond (from == r) 1 0)
-    × ((r : ℕ) → count_by (has_member r) ss ≡ count_by (has_member r) old)
-    × ((x y : List ℕ) → excess_value x y ss ≡ excess_value x y old)
-    × Alike old ss
-
-pub last_alike : (load : ℕ) (a b lp lm np nm : List ℕ) (ss old : List Slot) (p : ℕ) → 0 < get_or lp p 0 →
-    LabelsFit load a b lp lm np nm (get_or lp p 0) ss → Alike old ss →
-    (z : Slot) → z ≡ get_or ss (get_or np p 0) zero_slot
-    → Alike old (set ss (get_or np p 0) (slot z.paper z.member z.value true))
-last_alike load a b lp lm np nm ss old p some fit same z is =
-    let u : Leads a b lp lm ss p (get_or np p 0) = fit.papers p some (omega arith) in
-    subst (Alike old) (sym (read_choose ss (get_or np p 0) p u.member u.value z (is ∙ u.is zero_slot)))
-    (alike_flip old ss (get_or np p 0) p u.member u.value false true u.is same)
-
-pub last_excess : (load : ℕ) (a b lp lm np nm : List ℕ) (ss old : List Slot) (p : ℕ) → 0 < get_or lp p 0 →
-    LabelsFit load a b lp lm np nm (get_or lp p 0) ss → ((x y : List ℕ) → excess_value x y ss ≡ excess_value x y old) →
-    (z : Slot) → z ≡ get_or ss (get_or np p 0) zero_slot → (x y : List ℕ)
-    → excess_value x y (set ss (get_or np p 0) (slot z.paper z.member z.value true)) ≡ excess_value x y old
-last_excess load a b lp lm np nm ss old p some fit same z is x y =
-    let u : Leads a b lp lm ss p (get_or np p 0) = fit.papers p some (omega arith) in
-    ap (excess_value x y) (read_choose ss (get_or np p 0) p u.member u.value z (is ∙ u.is zero_slot))
-    ∙ flip_excess x y ss (get_or np p 0) p u.member u.value false true u.inside u.is ∙ same x y
-
-pub walking_step : (load : ℕ) (a b lp lm np nm : List ℕ) (old : List Slot) (from : ℕ) (ss : List Slot) (p : ℕ) →
-    Walking load a b lp lm np nm old from ss p → (x y : Slot) → x ≡ get_or ss (get_or np p 0) zero_slot
-    → get_or lm x.member 0 ≢ 1 →
-    y ≡ get_or (set ss (get_or np p 0) (slot x.paper x.member x.value true)) (get_or nm x.member 0) zero_slot →
-    Walking load a b lp lm np nm old from (set (set ss (get_or np p 0) (slot x.paper x.member x.value true))
-    (get_or nm x.member 0) (slot y.paper y.member y.value false)) y.paper
-    × (get_or lp y.paper 0 < get_or lp p 0)
-walking_step load a b lp lm np nm old from ss p inv x y isx ne isy =
-    let u : Leads a b lp lm ss p (get_or np p 0) = inv.2.papers p inv.0 (omega arith) in
-    let ex : x ≡ slot p u.member u.value false = isx ∙ u.is zero_slot in
-    let em : get_or lm x.member 0 ≡ get_or lm u.member 0 = ap (λ (s : Slot). get_or lm s.member 0) ex in
-    let two : 1 < get_or lm u.member 0 = omega (arith, u.labelled, em, ne) in
-    let low : get_or lm u.member 0 ≤ get_or lp p 0 = omega (arith, u.lower) in
-    let t : LeadsBack a b lp lm ss u.member (get_or nm u.member 0) = inv.2.members u.member two low in
-    let nij : get_or nm u.member 0 ≢ get_or np p 0 = λ e. chosen_differ ss (get_or np p 0) (get_or nm u.member 0) p
-    u.member u.value t.paper u.member t.value u.is t.is (sym e) in
-    let ey : y ≡ slot t.paper u.member t.value true =
-    isy ∙ ap (λ (x : Slot). get_or (set ss (get_or np p 0) (slot x.paper x.member x.value true)) (get_or nm x.member 0)
-    zero_slot) ex
-    ∙ get_or-set_other ss (get_or np p 0) (get_or nm u.member 0) (slot p u.member u.value true) zero_slot nij
-    ∙ t.is zero_slot in
-    let es : set (set ss (get_or np p 0) (slot x.paper x.member x.value true)) (get_or nm x.member 0)
-    (slot y.paper y.member y.value false)
-    ≡ flipped (flipped ss (get_or np p 0) p u.member u.value true) (get_or nm u.member 0) t.paper u.member t.value
-    false =
-    ap (λ (x : Slot). set (set ss (get_or np p 0) (slot x.paper x.member x.value true)) (get_or nm x.member 0)
-    (slot y.paper y.member y.value false)) ex
-    ∙ ap (λ (y : Slot). set (set ss (get_or np p 0) (slot p u.member u.value true)) (get_or nm u.member 0)
-    (slot y.paper y.member y.value false)) ey in
-    let ep : y.paper ≡ t.paper = ap (λ (s : Slot). s.paper) ey in
-    let there : Walking load a b lp lm np nm old from
-    (flipped (flipped ss (get_or np p 0) p u.member u.value true) (get_or nm u.member 0) t.paper u.member t.value
-    false) t.paper = (
-      t.labelled,
-      step_suits a b ss (get_or np p 0) (get_or nm u.member 0) p u.member u.value t.paper t.value u.tight t.tight inv.1,
-      step_labels load a b lp lm np nm (get_or lp p 0) ss p inv.2 u t (omega arith),
-      (λ r. omega (
-        arith,
-        step_counts_papers ss (get_or np p 0) (get_or nm u.member 0) p u.member u.value t.paper
-            t.value r u.inside t.inside u.is t.is,
-        inv.3 r,
-      )),
-      (λ r. step_counts_members ss (get_or np p 0) (get_or nm u.member 0) p u.member u.value t.paper t.value r u.inside
-          t.inside u.is t.is ∙ inv.4 r),
-      (λ x y. step_excess x y ss (get_or np p 0) (get_or nm u.member 0) p u.member u.value t.paper t.value u.inside
-          t.inside u.is t.is ∙ inv.5 x y),
-      alike_flip old (flipped ss (get_or np p 0) p u.member u.value true) (get_or nm u.member 0) t.paper u.member
-          t.value true false
-          (λ d. get_or-set_other ss (get_or np p 0) (get_or nm u.member 0) (slot p u.member u.value true) d nij
-          ∙ t.is d)
-          (alike_flip old ss (get_or np p 0) p u.member u.value false true u.is inv.6),
-    ) in (
-      subst (λ s. Walking load a b lp lm np nm old from s y.paper) (sym es)
-          (subst (Walking load a b lp lm np nm old from
-          (flipped (flipped ss (get_or np p 0) p u.member u.value true) (get_or nm u.member 0) t.paper u.member
-          t.value false)) (sym ep) there),
-      (let l : get_or lp t.paper 0 < get_or lp p 0 = omega (arith, t.lower, u.lower) in let el : get_or lp y.paper 0
-          ≡ get_or lp t.paper 0 = ap (λ k. get_or lp k 0) ep in omega (arith, l, el)),
+pub kept_more : (es : List Pair) (i papers : ℕ) (c d : Draft) (x : Pair) (found : Bool) (old new : List ℕ) → i < length es
+    → x ≡ nth es i → SameBefore es i c d → found ≡ is_held d (nth es i) → length old ≡ papers
+    → ((q : ℕ) → q < papers → get_or old q 0 ≡ count_by (has_paper q) (take i (slots c es)))
+    → ((q : ℕ) → q < length old → get_or new q 0 ≡ get_or old q 0 + cond (found && (x.paper == q)) 1 0)
+    → (q : ℕ) → q < papers → get_or new q 0 ≡ count_by (has_paper q) (take (i + 1) (slots d es))
+kept_more es i papers c d x found old new li is same held long counts more q lq =
+    let one : cond (found && (x.paper == q)) 1 0 ≡ bit (has_paper q (get_or (slots d es) i zero_slot)) =
+    ap (λ (y : Bool). cond (y && (x.paper == q)) 1 0) held
+    ∙ ap (λ (y : Pair). cond (is_held d (nth es i) && (y.paper == q)) 1 0) is
+    ∙ ap (λ (s : Slot). bit (has_paper q s)) (sym (slots_at d es i li)) in
+    omega (
+      arith,
+      more q (omega (arith, lq, long)),
+      counts q lq,
+      one,
+      count_more (has_paper q) (slots c es) (slots d es) i (slots_alike c d es) same (omega (arith, li, slots_length d es)),
     )

@@ -1,10 +1,9 @@
 -- A choice that suits its prices is worth what they say; and what a step of the prices does.
-use Rattle.std.proofs.Common.{◌≡◌, ℕ, zero, suc, ◌+◌, ◌-◌, ◌*◌, ◌<◌, ◌≤◌, Bool, true, false, cond, ◌&&◌, List, [], ◌∷◌}
-use Rattle.std.proofs.Common.{length, count_by, ◌==◌, sum, sum_by, get_or, refl, arith, ap, ◌∙◌}
-use Rattle.std.proofs.lemmas.List.Sums.{sum_by-cons}
-use Rattle.cr_match.specs.declared.search.Slot.{Slot}
-use Rattle.cr_match.specs.Slack.{price, Suits, AllSuit, has_paper, has_member, chosen_value, excess_value, dual}
-use Rattle.cr_match.specs.Slack.{PricedAreFull}
+use Rattle.cr_match.proofs.Common.{◌≡◌, ℕ, zero, suc, ◌+◌, ◌-◌, ◌*◌, ◌<◌, Bool, true, false, cond, ◌&&◌, List}
+use Rattle.cr_match.proofs.Common.{[], ◌∷◌, length, count_by, ◌==◌, sum, sum_by, get_or, refl, arith, ap, ◌∙◌}
+use Rattle.cr_match.proofs.Common.{sum_by-cons, Slot, price, AllSuit, has_paper, has_member, chosen_value}
+use Rattle.cr_match.proofs.Common.{excess_value, dual, PricedAreFull}
+use Rattle.cr_match.specs.Slack.{Suits}
 use Rattle.cr_match.proofs.Duality.{owed_n, owed_n_same, owed_n_add, owed_n_none, owed_n_one}
 
 -- what the chosen slots pay in the prices of one side
@@ -23,9 +22,7 @@ pub pays_is_owed : (place : Slot → ℕ) (xs : List ℕ) (ss : List Slot)
     → owed_n (λ q. count_by (has place q) ss) xs 0 ≡ pays place xs ss
 pays_is_owed place xs [] = owed_n_none xs 0
 pays_is_owed place xs (s ∷ ss) =
-    let split : owed_n (λ q. count_by (has place q) (s ∷ ss)) xs 0
-    ≡ owed_n (λ q. cond (has place q s) 1 0 + count_by (has place q) ss) xs 0 =
-    owed_n_same (λ q. count_by (has place q) (s ∷ ss)) (λ q. cond (has place q s) 1 0 + count_by (has place q) ss)
+    let split = owed_n_same (λ q. count_by (has place q) (s ∷ ss)) (λ q. cond (has place q s) 1 0 + count_by (has place q) ss)
     (λ q. sum_by-cons (λ x. cond (has place q x) 1 0) s ss) xs 0 in
     omega (
       arith,
@@ -67,10 +64,10 @@ slot_pays : (a b : List ℕ) (s : Slot) (c : Bool) → s.chosen ≡ c → Suits 
     cond s.chosen s.value 0 ≡ cond s.chosen (get_or a s.paper 0) 0 + cond s.chosen (get_or b s.member 0) 0
     + (s.value - price a b s)
 slot_pays a b s true e h =
-    let p : price a b s ≤ s.value = h.0 e in
+    let p = h.0 e in
     rw e (omega arith)
 slot_pays a b s false e h =
-    let p : s.value ≤ price a b s = h.1 e in
+    let p = h.1 e in
     rw e (omega arith)
 
 -- the chosen slots pay their prices and the excess, no more and no less

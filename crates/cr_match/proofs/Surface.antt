@@ -1,20 +1,14 @@
 -- From slots to the pairs that they are for.
-use Rattle.std.proofs.Common.{◌≡◌, ℕ, zero, suc, ◌+◌, ◌-◌, ◌*◌, ◌<◌, Bool, true, false, cond, ◌&&◌, ◌==◌, List, [], ◌∷◌}
-use Rattle.std.proofs.Common.{length, count_by, get_or, replicate, ℤ, pos, negsuc, ◌+ℤ◌, ◌-ℤ◌, ◌*ℤ◌, refl, arith, ap}
-use Rattle.std.proofs.Common.{sym, ◌∙◌, sum, sum_by}
-use Rattle.std.proofs.lemmas.Int.{ints}
-use Rattle.std.proofs.lemmas.List.Sums.{sum_by-cons}
-use Rattle.std.proofs.lemmas.List.{get_or-map, get_or-replicate}
-use Rattle.cr_match.specs.declared.problem.Pair.{Pair}
-use Rattle.cr_match.specs.declared.search.Slot.{Slot}
-use Rattle.cr_match.specs.Plan.{kept, of_paper, of_member, IsPlan, total_weight, sum_z, above, excess, bound}
-use Rattle.cr_match.specs.Slack.{price, has_paper, has_member, chosen_value, excess_value, dual}
-use Rattle.cr_match.specs.Labels.{Filled}
-use Rattle.cr_match.specs.Copies.{AreBy, IsFor, marks, AllWorth, lowered}
-use Rattle.cr_match.specs.Answer.{AreInside}
+use Rattle.cr_match.proofs.Common.{◌≡◌, ℕ, zero, suc, ◌+◌, ◌-◌, ◌*◌, ◌<◌, Bool, true, false, cond, ◌&&◌, ◌==◌, List}
+use Rattle.cr_match.proofs.Common.{[], ◌∷◌, length, count_by, get_or, replicate, ℤ, pos, negsuc, ◌+ℤ◌, ◌-ℤ◌, ◌*ℤ◌}
+use Rattle.cr_match.proofs.Common.{refl, arith, ap, sym, ◌∙◌, sum, sum_by, ints, sum_by-cons, get_or-replicate}
+use Rattle.cr_match.proofs.Common.{length-replicate, Pair, Slot, kept, of_paper, of_member, IsPlan, total_weight}
+use Rattle.cr_match.proofs.Common.{sum_z, above, excess, bound, price, has_paper, has_member, chosen_value}
+use Rattle.cr_match.proofs.Common.{excess_value, dual, Filled, AreBy, IsFor, marks, AllWorth, lowered, AreInside}
+use Rattle.std.proofs.lemmas.List.Folds.{sum_by-replicate}
+use Rattle.std.proofs.lemmas.List.{get_or-map}
 use Rattle.cr_match.proofs.Duality.{times_zero, times_one_more}
-use Rattle.cr_match.proofs.Strong.{pays}
-use Rattle.cr_match.proofs.Overlay.{pays_whole}
+use Rattle.cr_match.proofs.Strong.{pays, pays_is_owed, owed_n_whole}
 use Rattle.cr_match.proofs.Alike.{bit}
 
 -- sums over pairs that are chosen, and over all
@@ -81,22 +75,21 @@ abbrev pub chosen_count : List Slot → ℕ
 chosen_count ss = sum_by (λ s. bit s.chosen) ss
 
 weight_case : (e : Pair) (s : Slot) (c : Bool) (bs : List Bool) (es : List Pair) (n v : ℕ)
-    → pos s.value ≡ e.weight +ℤ pos 4294967296 →
-    (total_weight (kept bs es) +ℤ pos (4294967296 * n)) ≡ pos v →
-    (total_weight (kept (c ∷ bs) (e ∷ es)) +ℤ pos (4294967296 * (bit c + n))) ≡ pos (cond c s.value 0 + v)
+    → pos s.value ≡ e.weight +ℤ pos 1073741824 →
+    (total_weight (kept bs es) +ℤ pos (1073741824 * n)) ≡ pos v →
+    (total_weight (kept (c ∷ bs) (e ∷ es)) +ℤ pos (1073741824 * (bit c + n))) ≡ pos (cond c s.value 0 + v)
 weight_case e s true bs es n v w r = omega (arith, ints, w, r)
 weight_case e s false bs es n v w r = omega (arith, ints, r)
 
 pub kept_weight : (es : List Pair) (ss : List Slot) → AreBy IsFor es ss
-    → (total_weight (kept (marks ss) es) +ℤ pos (4294967296 * chosen_count ss)) ≡ pos (chosen_value ss)
+    → (total_weight (kept (marks ss) es) +ℤ pos (1073741824 * chosen_count ss)) ≡ pos (chosen_value ss)
 kept_weight [] [] h = refl
 kept_weight [] (s ∷ ss) h = absurd h
 kept_weight (e ∷ es) [] h = absurd h
 kept_weight (e ∷ es) (s ∷ ss) h =
-    let n : chosen_count (s ∷ ss) ≡ bit s.chosen + chosen_count ss = sum_by-cons (λ x. bit x.chosen) s ss in
-    let v : chosen_value (s ∷ ss) ≡ cond s.chosen s.value 0 + chosen_value ss =
-    sum_by-cons (λ x. cond x.chosen x.value 0) s ss in
-    ap (λ k. total_weight (kept (marks (s ∷ ss)) (e ∷ es)) +ℤ pos (4294967296 * k)) n
+    let n = sum_by-cons (λ x. bit x.chosen) s ss in
+    let v = sum_by-cons (λ x. cond x.chosen x.value 0) s ss in
+    ap (λ k. total_weight (kept (marks (s ∷ ss)) (e ∷ es)) +ℤ pos (1073741824 * k)) n
     ∙ weight_case e s s.chosen (marks ss) es (chosen_count ss) (chosen_value ss) h.0.2 (kept_weight es ss h.1)
     ∙ ap (λ k. pos k) (sym v)
 
@@ -117,6 +110,17 @@ all_paid low high papers (s ∷ ss) h =
       sum_by-cons (λ x. bit x.chosen) s ss,
     )
 
+pays_whole : (want low papers : ℕ) (ss : List Slot) → ((q : ℕ) → q < papers → count_by (has_paper q) ss ≡ want) →
+    pays (λ s. s.paper) (replicate papers low) ss ≡ want * (papers * low)
+pays_whole want low papers ss full =
+    let long = length-replicate papers low in
+    let total = sum_by-replicate (λ y. y) papers low in
+    sym (pays_is_owed (λ s. s.paper) (replicate papers low) ss)
+    ∙ owed_n_whole (λ q. count_by (has_paper q) ss) want (replicate papers low) 0
+    (λ i l _. let e : 0 + i ≡ i =
+    omega arith in ap (λ q. count_by (has_paper q) ss) e ∙ full i (let k : i < papers = omega (arith, l, long) in k))
+    ∙ ap (λ n. want * n) total
+
 pub chosen_count_is : (want low high papers : ℕ) (ss : List Slot) → AllWorth low high papers ss
     → ((q : ℕ) → q < papers → count_by (has_paper q) ss ≡ want) →
     chosen_count ss ≡ want * papers
@@ -126,11 +130,11 @@ chosen_count_is want low high papers ss worth full =
 
 -- prices, lowered
 
-pub sum_lowered : (a : List ℕ) → (sum_z (lowered a) +ℤ pos (4294967296 * length a)) ≡ pos (sum a)
+pub sum_lowered : (a : List ℕ) → (sum_z (lowered a) +ℤ pos (1073741824 * length a)) ≡ pos (sum a)
 sum_lowered [] = refl
 sum_lowered (x ∷ xs) =
     let l : length (x ∷ xs) ≡ suc (length xs) = refl in
-    let s : sum (x ∷ xs) ≡ x + sum xs = sum_by-cons (λ y. y) x xs in
+    let s = sum_by-cons (λ y. y) x xs in
     omega (arith, ints, l, s, sum_lowered xs)
 
 times_lifted : (n : ℕ) (z : ℤ) (t s : ℕ) → (z +ℤ pos t) ≡ pos s → ((pos n *ℤ z) +ℤ pos (n * t)) ≡ pos (n * s)
@@ -140,8 +144,8 @@ times_lifted (suc n) z t s h =
     let v : suc n * s ≡ n * s + s = omega arith in
     omega (arith, ints, u, v, h, times_one_more n z, times_lifted n z t s h)
 
-lowered_at : (a : List ℕ) (q : ℕ) → q < length a → get_or (lowered a) q (pos 0) ≡ (pos (get_or a q 0) -ℤ pos 4294967296)
-lowered_at a q lt = get_or-map (λ x. pos x -ℤ pos 4294967296) a q 0 (pos 0) lt
+lowered_at : (a : List ℕ) (q : ℕ) → q < length a → get_or (lowered a) q (pos 0) ≡ (pos (get_or a q 0) -ℤ pos 1073741824)
+lowered_at a q lt = get_or-map (λ x. pos x -ℤ pos 1073741824) a q 0 (pos 0) lt
 
 above_minus : (z : ℤ) (v p : ℕ) → z ≡ (pos v -ℤ pos p) → above z ≡ v - p
 above_minus (pos n) v p h = omega (arith, ints, h)
@@ -179,13 +183,10 @@ pub weight-is-bound : (want load low high papers members : ℕ) (a b : List ℕ)
     → chosen_value ss ≡ dual want load a b ss →
     total_weight (kept (marks ss) es) ≡ bound want load (lowered a) b es
 weight-is-bound want load low high papers members a b es ss inside long for worth full strong =
-    let n : chosen_count ss ≡ want * papers = chosen_count_is want low high papers ss worth full in
-    let w : (total_weight (kept (marks ss) es) +ℤ pos (4294967296 * (want * papers))) ≡ pos (chosen_value ss) =
-    sym (ap (λ k. total_weight (kept (marks ss) es) +ℤ pos (4294967296 * k)) n) ∙ kept_weight es ss for in
-    let t : ((pos want *ℤ sum_z (lowered a)) +ℤ pos (want * (4294967296 * length a))) ≡ pos (want * sum a) =
-    times_lifted want (sum_z (lowered a)) (4294967296 * length a) (sum a) (sum_lowered a) in
-    let e : want * (4294967296 * length a) ≡ 4294967296 * (want * papers) =
-    ap (λ k. want * (4294967296 * k)) (sym long) ∙ omega arith in
-    let x : sum_by (excess (lowered a) b) es ≡ excess_value a b ss =
-    all_excess papers members a b es ss inside long for in
+    let n = chosen_count_is want low high papers ss worth full in
+    let w = sym (ap (λ k. total_weight (kept (marks ss) es) +ℤ pos (1073741824 * k)) n) ∙ kept_weight es ss for in
+    let t = times_lifted want (sum_z (lowered a)) (1073741824 * length a) (sum a) (sum_lowered a) in
+    let e : want * (1073741824 * length a) ≡ 1073741824 * (want * papers) =
+    ap (λ k. want * (1073741824 * k)) (sym long) ∙ omega arith in
+    let x = all_excess papers members a b es ss inside long for in
     omega (arith, ints, w, t, e, x, strong)

@@ -1,15 +1,15 @@
 -- What is asked of the search for plans, and what answers it: a greatest plan, or papers that show that there is
 -- none.
-use Rattle.std.specs.Prelude.{◌≡◌, ℕ, ◌*◌, ◌<◌, ◌≤◌, ◌^◌, ◌⊎◌}
+use Rattle.std.specs.Prelude.{◌≡◌, ◌≢◌, ℕ, ◌*◌, ◌<◌, ◌≤◌, ◌⊎◌}
 use Rattle.std.specs.Prelude.{Bool, List, [], ◌∷◌, length, ℤ, pos, negsuc, ◌≤ℤ◌}
 use Rattle.cr_match.specs.declared.problem.Pair.{Pair}
 use Rattle.cr_match.specs.declared.problem.Problem.{Problem}
 use Rattle.cr_match.specs.declared.problem.Prices.{Prices}
 use Rattle.cr_match.specs.declared.problem.Solved.{Solved}
 use Rattle.cr_match.specs.declared.problem.Solved.TheVariants.{Best, NoPlan, OutOfMemory}
-use Rattle.cr_match.specs.declared.search.Slot.{Slot}
+use Rattle.cr_match.specs.Slack.{Slot}
 use Rattle.cr_match.specs.Plan.{kept, IsPlan, total_weight, bound, IsTooMuch}
-use Rattle.cr_match.specs.Labels.{Filled, UpTo}
+use Rattle.cr_match.specs.Labels.{Filled}
 use Rattle.cr_match.specs.Slack.{AllSuit, PricedAreFull}
 use Rattle.cr_match.specs.Copies.{AreBy, IsFor}
 
@@ -32,15 +32,25 @@ abbrev pub IsAscending : List Pair → Type 0
 IsAscending [] = Unit {0}
 IsAscending (e ∷ es) = Ascends e es
 
--- what may be asked: at most 512 places, 4,096 pairs of a paper and a member, and 10,000 papers or members; the pairs
--- in order
+-- no pair of the same paper and member
+abbrev pub IsApart : Pair → List Pair → Type 0
+IsApart e [] = Unit {0}
+IsApart e (f ∷ fs) = ((f.paper ≢ e.paper) ⊎ (f.member ≢ e.member)) × IsApart e fs
+
+-- no pair stands twice
+abbrev pub AreDistinct : List Pair → Type 0
+AreDistinct [] = Unit {0}
+AreDistinct (e ∷ es) = IsApart e es × AreDistinct es
+
+-- what may be asked: at most 512 places, 4,096 pairs of a paper and a member, and 10,000 papers or members; no pair
+-- twice
 pub record IsAsked (papers members per_paper : ℕ) (pairs : List Pair) : Type 0 where
   pub places : per_paper * papers ≤ 512
   pub grid : papers * members ≤ 4096
   pub sides : (papers ≤ 10000) × (members ≤ 10000) × (per_paper ≤ 512)
   pub few : length pairs ≤ 4096
   pub inside : AreInside papers members pairs
-  pub order : IsAscending pairs
+  pub distinct : AreDistinct pairs
 
 abbrev pub IsProblem : Problem → Type 0
 IsProblem problem = IsAsked problem.papers problem.members problem.per_paper problem.pairs.items
@@ -80,8 +90,6 @@ pub record IsChosen (problem : Problem) (a b : List ℕ) (ss : List Slot) : Type
   pub priced : PricedAreFull problem.load b ss
   pub papers : length a ≡ problem.papers
   pub members : length b ≡ problem.members
-  pub small : UpTo (2 ^ 62) a
-  pub small_members : UpTo (2 ^ 62) b
 
 -- two lists of pairs in dictionary order, each pair by paper, then member
 abbrev pub IsBefore : List Pair → List Pair → Type 0
@@ -96,7 +104,7 @@ abbrev pub IsFirst : Problem → List Pair → Type 0
 IsFirst problem pairs = (other : List Pair) → IsPlanOf problem other → total_weight other ≡ total_weight pairs
     → (other ≡ pairs) ⊎ IsBefore pairs other
 
--- the first in order of the plans of the greatest sum, or what shows that there is none
+-- the plan of the greatest sum is the first in order of these
 abbrev pub IsFirstSolved : Problem → Solved → Type 0
 IsFirstSolved problem (Best pairs sum prices) = IsGreatest problem pairs.items sum prices × IsFirst problem pairs.items
 IsFirstSolved problem (NoPlan papers) = HasNoPlan problem papers.items

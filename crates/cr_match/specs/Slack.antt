@@ -2,7 +2,13 @@
 use Rattle.std.specs.Prelude.{◌≡◌, ℕ, ◌+◌, ◌-◌, ◌*◌, ◌<◌, ◌≤◌}
 use Rattle.std.specs.Prelude.{Bool, true, false, ◌&&◌, List, [], ◌∷◌, count_by}
 use Rattle.std.specs.Prelude.{◌==◌, sum, sum_by, slice_index_or, if◌then◌else◌}
-use Rattle.cr_match.specs.declared.search.Slot.{Slot}
+
+-- a pair, what it is worth, and whether it is chosen
+pub record Slot : Type 0 where
+  pub paper : ℕ
+  pub member : ℕ
+  pub value : ℕ
+  pub chosen : Bool
 
 abbrev pub price : List ℕ → List ℕ → Slot → ℕ
 price a b s = slice_index_or a s.paper 0 + slice_index_or b s.member 0
@@ -34,15 +40,6 @@ dual want load a b ss = want * sum a + load * sum b + excess_value a b ss
 -- a member with a price has all that she may have
 abbrev pub PricedAreFull : ℕ → List ℕ → List Slot → Type 0
 PricedAreFull load b ss = (m : ℕ) → 0 < slice_index_or b m 0 → count_by (has_member m) ss ≡ load
-
--- `as` is `ps` and `qs` added, place by place
-abbrev pub IsSumOf : List ℕ → List ℕ → List ℕ → Type 0
-IsSumOf [] [] [] = Unit {0}
-IsSumOf [] [] (q ∷ qs) = ⊥
-IsSumOf [] (p ∷ ps) qs = ⊥
-IsSumOf (x ∷ xs) [] qs = ⊥
-IsSumOf (x ∷ xs) (p ∷ ps) [] = ⊥
-IsSumOf (x ∷ xs) (p ∷ ps) (q ∷ qs) = (x ≡ p + q) × IsSumOf xs ps qs
 
 -- `down` marks papers, `up` members, each by 1: from a marked place a tight slot that may change leads to a marked one
 -- only

@@ -1,9 +1,10 @@
 //! Whether a problem may be asked.
 
-ghost use Rattle.std.specs.Prelude.{◌≡◌, ◌↔◌, IsTrue, IfNone, IfSome};
-ghost use Rattle.cr_match.specs.Answer.{AreInside, ComesAfter, IsAscending, IsAsked, IsProblem};
+ghost use Rattle.std.specs.Prelude.{◌≡◌, ◌+◌, ◌*◌, ◌<◌, ◌≤◌, ◌↔◌, IsTrue, IfNone, IfSome, length};
+ghost use Rattle.cr_match.specs.Answer.{AreDistinct, AreInside, IsAsked, IsProblem};
 
 use crate::problem::{Pair, Problem};
+use crate::rows::{has, put};
 
 /// Whether each pair joins a paper and a member that there are, and weighs -20 to 20.
 pub fn are_inside(pairs: &[Pair], papers: u32, members: u32) -> bool
@@ -17,21 +18,27 @@ pub fn are_inside(pairs: &[Pair], papers: u32, members: u32) -> bool
     true
 }
 
-/// Whether `next` comes after `pair`, by paper, then member.
-pub fn comes_after(pair: &Pair, next: &Pair) -> bool
-    ensures { IsTrue result ↔ ComesAfter pair.now next.now }
+/// The place of a pair in a table of 4,096 at most.
+fn cell_of(pair: &Pair, members: u32) -> usize
+    requires small { pair.now.paper * members + pair.now.member < 4096 }
+    ensures { result ≡ pair.now.paper * members + pair.now.member }
 {
-    pair.paper < next.paper || pair.paper == next.paper && pair.member < next.member
+    (pair.paper * members + pair.member) as usize
 }
 
-/// Whether each pair comes after the one before it.
-pub fn are_ascending(pairs: &[Pair]) -> bool
-    ensures { IsTrue result ↔ IsAscending pairs.now }
+/// Whether no pair stands twice. Takes no memory but 512 bytes.
+pub fn are_distinct(pairs: &[Pair], papers: u32, members: u32) -> bool
+    requires grid { papers * members ≤ 4096 }
+    requires inside { AreInside papers members pairs.now }
+    ensures { IsTrue result ↔ AreDistinct pairs.now }
 {
-    for i in 1..pairs.len() {
-        if !comes_after(&pairs[i - 1], &pairs[i]) {
+    let mut seen = [0; 64];
+    for i in 0..pairs.len() {
+        let cell = cell_of(&pairs[i], members);
+        if has(&seen, 64, 0, cell) {
             return false;
         }
+        put(&mut seen, 64, 0, cell);
     }
     true
 }
@@ -39,7 +46,7 @@ pub fn are_ascending(pairs: &[Pair]) -> bool
 impl Problem {
     /// The problem with these parts. None where `per_paper` times the papers passes 512, papers times members passes
     /// 4,096, there are more than 10,000 papers or members or 4,096 pairs, a pair's paper or member isn't there, a
-    /// weight isn't -20 to 20, or a pair doesn't come after the one before it, by paper, then member.
+    /// weight isn't -20 to 20, or a pair of the same paper and member stands twice.
     pub fn new(
         papers: u32,
         members: u32,
@@ -59,7 +66,10 @@ impl Problem {
         if per_paper * papers > 512 || papers * members > 4_096 {
             return None;
         }
-        if !are_inside(&pairs, papers, members) || !are_ascending(&pairs) {
+        if !are_inside(&pairs, papers, members) {
+            return None;
+        }
+        if !are_distinct(&pairs, papers, members) {
             return None;
         }
         Some(Problem {

@@ -2,13 +2,17 @@
 #![tactic(auto)]
 
 mod asked;
-mod fill;
+mod board;
+mod draft;
 mod greatest;
 mod problem;
-mod search;
+mod raise;
+mod rows;
 mod settle;
-mod start;
+mod setup;
 mod tell;
+mod tight;
+mod trail;
 
 pub use greatest::{first_best, solve};
 pub use problem::{Pair, Prices, Problem, Solved};

@@ -65,3 +65,22 @@ fn first_of_all(rt: HostRuntime) -> Result<(), Fail> {
     assert_eq!(rt; (pairs[1].paper, pairs[1].member), (1, 1));
     Ok(())
 }
+
+#[test]
+fn pairs_in_no_order(rt: HostRuntime) -> Result<(), Fail> {
+    let mut pairs = Vec::new(rt.alloc());
+    for (paper, member, weight) in [(1, 0, 3), (0, 1, -2), (1, 1, 2), (0, 0, 5)] {
+        pairs.push(Pair {
+            paper,
+            member,
+            weight,
+        })?;
+    }
+    let problem = Problem::new(2, 2, 1, 1, pairs).expect(&rt, "a problem");
+    let Solved::Best { pairs, sum, .. } = solve(&problem) else {
+        panic!(&rt; "a plan");
+    };
+    assert_eq!(rt; sum, 7);
+    assert_eq!(rt; (pairs[0].paper, pairs[0].member), (1, 1));
+    Ok(())
+}

@@ -20,7 +20,7 @@ use Rattle.cr_match.specs.declared.problem.Problem.{Problem}
 use Rattle.cr_match.specs.declared.problem.Prices.{Prices}
 use Rattle.cr_match.specs.Answer.{AreInside, HasNoPlan, IsFirst, IsGreatest}
 use Rattle.cr_plans.specs.Pairing.{IsProblemOf, MayPlan, pairs_at, plan_due, row_at}
-use Rattle.cr_plans.proofs.Problems.{told, told-all}
+use Rattle.cr_plans.proofs.Problems.{problem-ascends, told, told-all}
 use Rattle.cr_plans.proofs.Solutions.{best-is, none-is, inside-kept-all}
 
 -- ---- what may be asked for
@@ -94,7 +94,7 @@ module _ (t : Tables) (user : Option ℕ) (per_paper load : ℕ) (papers : List 
       → Some (plan_header ++ flat_map (row_at papers members) pairs) ≡ plan_due t user per_paper load
   due-best pairs sum prices greatest first =
       let best = sym same ∙ best-is problem papers members of.asked of.papers_are of.members_are rising rising_users
-      pairs sum prices greatest first in
+      pairs sum prices greatest first (problem-ascends t papers members per_paper load problem of) in
       ap (λ (rows : List ℕ). Some (plan_header ++ rows)) (sym (rows-told papers members pairs))
       ∙ sym (ap (option_map plan_text) best)
 

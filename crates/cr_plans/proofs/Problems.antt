@@ -1,5 +1,5 @@
 -- The pairs of places: they are inside, they ascend, and they stand for the pairs that are planned.
-use Rattle.std.proofs.Common.{◌≡◌, ◌⊎◌, inl, inr, ℕ, zero, suc, ◌+◌, ◌≤◌, ◌<◌, ◌-◌, ◌*◌, Bool, true, false, cond, List}
+use Rattle.std.proofs.Common.{◌≡◌, ◌≢◌, ◌⊎◌, inl, inr, ℕ, zero, suc, ◌+◌, ◌≤◌, ◌<◌, ◌-◌, ◌*◌, Bool, true, false, cond, List}
 use Rattle.std.proofs.Common.{[], ◌∷◌, ◌++◌, length, length-append, get_or, map, Option, refl, arith, ap, sym, ◌∙◌}
 use Rattle.std.proofs.Common.{subst, ℤ, pos, negsuc}
 use Rattle.std.specs.Prelude.{filter, slice_index, slice_index_or}
@@ -11,7 +11,7 @@ use Rattle.cr_base.specs.Sources.{Facts, Shown, facts_of_tables, shown_in_tables
 use Rattle.cr_base.specs.Tables.{Tables}
 use Rattle.cr_match.specs.declared.problem.Pair.{Pair}
 use Rattle.cr_match.specs.declared.problem.Problem.{Problem}
-use Rattle.cr_match.specs.Answer.{AreInside, Ascends, IsAscending, IsAsked, IsProblem}
+use Rattle.cr_match.specs.Answer.{AreDistinct, AreInside, Ascends, ComesAfter, IsApart, IsAscending, IsAsked, IsProblem}
 use Rattle.cr_plans.specs.Pairing.{AllWeigh, IsProblemOf, no_line, pair_at, pairs_at, pairs_of_place, weight_of}
 
 -- ---- weights
@@ -293,6 +293,35 @@ module _ (t : Tables) where
       one_more : (n m : ℕ) → suc n * m ≡ n * m + m
       one_more n m = omega arith
 
+-- pairs that ascend are distinct
+
+comes-on : (e f g : Pair) → ComesAfter e f → ComesAfter f g → ComesAfter e g
+comes-on e f g (inl a) (inl b) = inl (omega (arith, a, b))
+comes-on e f g (inl a) (inr b) = inl (omega (arith, a, b.0))
+comes-on e f g (inr a) (inl b) = inl (omega (arith, a.0, b))
+comes-on e f g (inr a) (inr b) = inr (a.0 ∙ b.0, omega (arith, a.1, b.1))
+
+comes-apart : (e f : Pair) → ComesAfter e f → (f.paper ≢ e.paper) ⊎ (f.member ≢ e.member)
+comes-apart e f (inl a) = inl (λ i. absurd (omega (arith, a, i)))
+comes-apart e f (inr a) = inr (λ i. absurd (omega (arith, a.1, i)))
+
+ascends-apart : (e f : Pair) (es : List Pair) → ComesAfter e f → Ascends f es → IsApart e es
+ascends-apart e f [] c h = tt
+ascends-apart e f (g ∷ gs) c h =
+    let d : ComesAfter e g = comes-on e f g c h.0 in (comes-apart e g d, ascends-apart e g gs d h.1)
+
+first-apart : (e : Pair) (es : List Pair) → Ascends e es → IsApart e es
+first-apart e [] h = tt
+first-apart e (f ∷ fs) h = (comes-apart e f h.0, ascends-apart e f fs h.0 h.1)
+
+ascends-distinct : (e : Pair) (es : List Pair) → Ascends e es → AreDistinct (e ∷ es)
+ascends-distinct e [] h = (tt, tt)
+ascends-distinct e (f ∷ fs) h = (first-apart e (f ∷ fs) h, ascends-distinct f fs h.1)
+
+ascending-distinct : (es : List Pair) → IsAscending es → AreDistinct es
+ascending-distinct [] h = tt
+ascending-distinct (e ∷ es) h = ascends-distinct e es h
+
 -- ---- it may be asked
 
 pub asked-of : (t : Tables) (papers : List ℕ) (members : List AccountLine) (per_paper : ℕ) → length papers ≤ 9999
@@ -306,7 +335,7 @@ asked-of t papers members per_paper few_papers few_members low places grid weigh
   sides = (omega (arith, few_papers), omega (arith, few_members), omega (arith, low));
   few = omega (arith, pairs-few t 0 papers members, grid);
   inside = pairs-inside t (length papers) (length members) 0 papers members (omega arith) (omega arith) weigh;
-  order = pairs-order t 0 papers members;
+  distinct = ascending-distinct (pairs_at t 0 papers members) (pairs-order t 0 papers members);
 }
 
 -- ---- the problem that is made of these parts
@@ -335,3 +364,9 @@ module _ (t : Tables) (papers : List ℕ) (members : List AccountLine) (per_pape
     load_is = h.4 ∙ l-is;
     pairs_are = h.5 ∙ pairs-are;
   }
+
+-- its pairs stand in order
+pub problem-ascends : (t : Tables) (papers : List ℕ) (members : List AccountLine) (per_paper load : ℕ) (problem : Problem)
+    → IsProblemOf t papers members per_paper load problem → IsAscending problem.pairs.items
+problem-ascends t papers members per_paper load problem h =
+    subst (λ (es : List Pair). IsAscending es) (sym h.pairs_are) (pairs-order t 0 papers members)

@@ -18,7 +18,7 @@ use Rattle.cr_match.specs.declared.problem.Pair.{Pair}
 use Rattle.cr_match.specs.declared.problem.Problem.{Problem}
 use Rattle.cr_match.specs.declared.problem.Prices.{Prices}
 use Rattle.cr_match.specs.Plan.{IsPlan, kept, of_member, of_paper, total_below, total_weight}
-use Rattle.cr_match.specs.Answer.{AreInside, ComesAfter, HasNoPlan, IsBefore, IsFirst, IsGreatest, IsPlanOf, IsProblem}
+use Rattle.cr_match.specs.Answer.{AreInside, ComesAfter, HasNoPlan, IsAscending, IsBefore, IsFirst, IsGreatest, IsPlanOf, IsProblem}
 use Rattle.cr_match.proofs.Alike.{bit}
 use Rattle.cr_match.proofs.Room.{total_below_add, total_below_none, total_below_one, total_below_same}
 use Rattle.cr_plans.specs.Pairing.{no_line}
@@ -364,10 +364,10 @@ module _ (problem : Problem) (papers : List ℕ) (members : List AccountLine) (a
 
   -- the answered plan is the best one
   pub best-is : (pairs : List Pair) (weight : ℤ) (prices : Prices) → IsGreatest problem pairs weight prices
-      → IsFirst problem pairs → best ≡ Some (map f pairs)
-  best-is pairs weight prices greatest first =
+      → IsFirst problem pairs → IsAscending es → best ≡ Some (map f pairs)
+  best-is pairs weight prices greatest first asc =
       let there = some-best sum Before passing pairs (passing-of pairs greatest.plan) in
-      let of = best-of sum Before passing (order-filter Before test (choices es) (choices-order es asked.order)) there.0
+      let of = best-of sum Before passing (order-filter Before test (choices es) (choices-order es asc)) there.0
       there.1 in
       reduced
       ∙ ap (option_map (map f)) (there.1 ∙ ap (λ (p : List Pair). Some p)

@@ -1,5 +1,4 @@
-use Rattle.std.proofs.Common.{get_or, pos, negsuc, ◌≤ℤ◌, arith}
-use Rattle.std.proofs.lemmas.Int.{ints}
+use Rattle.cr_match.proofs.Common.{get_or, pos, negsuc, ◌≤ℤ◌, arith, ints}
 use Rattle.cr_match.proofs.Order.{inside_first, inside_back}
 use Rattle.cr_match.proofs.Tells.{zero_pair}
 use Rattle.cr_match.proofs.asked.are_inside.Goals as goal

@@ -1,5 +1,4 @@
-use Rattle.std.proofs.Common.{drop}
-use Rattle.cr_match.specs.Answer.{AreInside}
+use Rattle.cr_match.proofs.Common.{drop, AreInside}
 use Rattle.cr_match.proofs.asked.are_inside.Given as goal
 
 abbrev pub invariant-loop-pair : goal.invariant-loop-pair

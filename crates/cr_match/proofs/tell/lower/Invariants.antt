@@ -1,5 +1,4 @@
-use Rattle.std.proofs.Common.{◌≡◌, take}
-use Rattle.cr_match.specs.Copies.{lowered}
+use Rattle.cr_match.proofs.Common.{◌≡◌, take, lowered}
 use Rattle.cr_match.proofs.tell.lower.Given as goal
 
 abbrev pub invariant-loop-price : goal.invariant-loop-price

@@ -1,5 +1,4 @@
-use Rattle.std.proofs.Common.{get_or, arith, refl}
-use Rattle.std.proofs.lemmas.Int.{ints}
+use Rattle.cr_match.proofs.Common.{get_or, arith, refl, ints}
 use Rattle.cr_match.proofs.Tells.{weight_at, zero_pair}
 use Rattle.cr_match.proofs.tell.weight_of.Goals as goal
 

@@ -1,5 +1,4 @@
-use Rattle.std.proofs.Common.{◌≡◌, ◌*◌, pos, ◌+ℤ◌, ◌-ℤ◌, ◌≤ℤ◌, drop}
-use Rattle.cr_match.specs.Plan.{total_weight}
+use Rattle.cr_match.proofs.Common.{◌≡◌, ◌*◌, pos, ◌+ℤ◌, ◌-ℤ◌, ◌≤ℤ◌, drop, total_weight}
 use Rattle.cr_match.proofs.tell.weight_of.Given as goal
 
 abbrev pub invariant-loop-pair : goal.invariant-loop-pair

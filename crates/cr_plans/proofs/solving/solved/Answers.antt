@@ -7,6 +7,7 @@ use Rattle.cr_match.specs.declared.problem.Pair.{Pair}
 use Rattle.cr_match.specs.Answer.{AreInside}
 use Rattle.cr_plans.specs.Pairing.{row_at}
 use Rattle.cr_plans.proofs.Due.{due-best, due-inside, due-none, may-fit}
+use Rattle.cr_plans.proofs.Problems.{problem-ascends}
 use Rattle.cr_plans.proofs.solving.solved.Goals as goal
 
 pub problem-requires-clause-places : goal.problem-requires-clause-places
@@ -29,7 +30,7 @@ text-requires c =
     (sym c.deref.ensures.value)
     (due-inside c.args.live.now.tables c.args.user.now c.args.per_paper c.args.load c.args.papers.now c.args.members.now
     c.in_ok-problem.problem
-    c.requires.papers c.requires.members c.in_ok-problem.ensures _ _ _ c.in-Best.ensures.0)
+    c.requires.papers c.requires.members c.in_ok-problem.ensures _ _ _ c.in-Best.ensures.solved)
 
 pub returns-in-Best : goal.returns-in-Best
 returns-in-Best c =
@@ -38,10 +39,12 @@ returns-in-Best c =
     c.deref.ensures.value)
     ∙ due-best c.args.live.now.tables c.args.user.now c.args.per_paper c.args.load c.args.papers.now c.args.members.now
     c.in_ok-problem.problem
-    c.requires.papers c.requires.members c.in_ok-problem.ensures _ _ _ c.in-Best.ensures.0 c.in-Best.ensures.1
+    c.requires.papers c.requires.members c.in_ok-problem.ensures _ _ _ c.in-Best.ensures.solved
+    (c.in-Best.ensures.first (problem-ascends c.args.live.now.tables c.args.papers.now c.args.members.now c.args.per_paper
+    c.args.load c.in_ok-problem.problem c.in_ok-problem.ensures)).1
 
 pub returns-in-NoPlan : goal.returns-in-NoPlan
 returns-in-NoPlan c =
     due-none c.args.live.now.tables c.args.user.now c.args.per_paper c.args.load c.args.papers.now c.args.members.now
     c.in_ok-problem.problem
-    c.requires.papers c.requires.members c.in_ok-problem.ensures _ c.in-NoPlan.ensures
+    c.requires.papers c.requires.members c.in_ok-problem.ensures _ c.in-NoPlan.ensures.solved

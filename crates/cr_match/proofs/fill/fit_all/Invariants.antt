@@ -1,6 +1,0 @@
-use Rattle.cr_match.specs.Slack.{AllSuit}
-use Rattle.cr_match.specs.Labels.{Alike, Filled}
-use Rattle.cr_match.proofs.fill.fit_all.Given as goal
-
-abbrev pub invariant-loop-p : goal.invariant-loop-p
-invariant-loop-p l = Filled l.want l.load l.p 0 l.slots × AllSuit l.a l.b l.slots × Alike l.initial.slots l.slots

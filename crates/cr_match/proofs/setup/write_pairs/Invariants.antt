@@ -1,0 +1,6 @@
+use Rattle.cr_match.proofs.Common.{◌≡◌, length}
+use Rattle.cr_match.proofs.Tables.{AreWritten}
+use Rattle.cr_match.proofs.setup.write_pairs.Given as goal
+
+abbrev pub invariant-loop-i : goal.invariant-loop-i
+invariant-loop-i l = (length l.worth.items ≡ length l.fn.worth.items) × AreWritten l.worth.items l.members l.pairs l.i

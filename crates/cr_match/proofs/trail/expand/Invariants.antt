@@ -1,0 +1,12 @@
+use Rattle.cr_match.proofs.Common.{◌≡◌, ℕ, ◌+◌, ◌-◌, ◌<◌, ◌≤◌, Has, Drops, step_of, IsRoomy, AreSteps, IsReached}
+use Rattle.cr_match.proofs.Common.{GoesOn}
+use Rattle.cr_match.proofs.trail.expand.Given as goal
+
+abbrev pub invariant-papers : goal.invariant-papers
+invariant-papers l =
+    IsRoomy l.moves l.trail × AreSteps l.moves l.trail × IsReached l.moves l.target l.trail × GoesOn l.initial.trail l.trail
+    × (l.trail.next ≡ l.initial.trail.next) × (l.member ≡ (step_of l.trail l.from).member)
+    × ((j : ℕ) → j < l.at → Drops l.moves l.member j → Has l.trail.papers.items j) × (l.at ≤ l.moves.papers + 1)
+
+abbrev pub decreases-papers : goal.decreases-papers
+decreases-papers l = l.moves.papers + 1 - l.at
