@@ -31,7 +31,8 @@ from planted.specs import BUILT_IN, MEMO, PAPERS, History, Specs, applied, arity
 
 # which crate has a law
 CRATES = {"law_view_suffices": "cr_policy", "law_bounds": "cr_bounds", "law_response_bound": "cr_bounds",
-          "law_views": "cr_conference", "law_undeducible": "cr_undeduced", "law_may_have_been": "cr_undeduced"}
+          "law_views": "cr_conference", "law_undeducible": "cr_undeduced", "law_may_have_been": "cr_undeduced",
+          "law_makers": "cr_undeduced", "law_twins": "cr_undeduced"}
 CUTS = {}
 
 
@@ -61,7 +62,7 @@ def clauses(law):
     return dict(re.findall(r"ensures (\w+) \{ (\w+) \}", text))
 
 
-LAWS = {law: clauses(law) for law in ("law_bounds", "law_response_bound", "law_views", "law_undeducible")}
+LAWS = {law: clauses(law) for law in ("law_bounds", "law_response_bound", "law_views", "law_undeducible", "law_twins")}
 # what rests on judgement and isn't computed; and a clause that is one of looks at the end
 UNCOMPUTED = {"legal", "shorter", "group"}
 
@@ -69,7 +70,7 @@ UNCOMPUTED = {"legal", "shorter", "group"}
 def named(row):
     """The law and the clauses that a row says are false."""
     laws = (("clauses", "law_bounds"), ("response", "law_response_bound"), ("views", "law_views"),
-            ("undeduced", "law_undeducible"))
+            ("undeduced", "law_undeducible"), ("twins", "law_twins"))
     return [(law, clause) for word, law in laws for clause in row.words(word)]
 
 
@@ -285,10 +286,37 @@ class Computed:
                         return False
         return True
 
+    def holds_of_places(self):
+        """Whether who isn't told which of two users it was, by the bounds, sees the same where these have each
+        other's place at a paper."""
+        of = functools.partial(self.specs.get, "cr_undeduced.specs.Twins")
+        moves, renames, twinned = of("moves"), of("renames"), of("twinned")
+        was_told = self.specs.get("cr_undeduced.specs.Undeducible", "was_told")
+        makers, named = (self.specs.get("cr_bounds.specs.ShownTo", part) for part in ("maker_for", "user_for"))
+        is_author = self.specs.get("cr_base.specs.HistoryFacts", "is_author")
+        view = self.specs.get("cr_policy.specs.View", "view")
+        for history in self.histories[::7] + self.histories[-30::2]:
+            for paper, pair in ((1, (3, 8)), (2, (2, 4))):
+                if any(is_author(("Some", user), paper, history) for user in pair):
+                    continue
+                twins = {"paper": paper, "one": pair[0], "other": pair[1]}
+                other = History(applied(twinned, twins, history))
+                changed = [(at, part) for at, e in enumerate(history)
+                           for part, does in ((makers, moves(twins, e)), (named, renames(twins, e["entry"]))) if does]
+                for u in [NOBODY, *USERS]:
+                    if u[1:] in [(user,) for user in pair] or view(u, history) == view(u, other):
+                        continue
+                    if not any(applied(was_told, part, History(history[:at]), history[at], u, history, history[at:])
+                               for at, part in changed):
+                        return False
+        return True
+
     def holds(self, law, name):
         """Whether the clause holds wherever it is computed."""
         if law == "law_undeducible":
             return self.holds_of_looks()
+        if law == "law_twins":
+            return self.holds_of_places()
         if law == "law_response_bound":
             if name in ("unheard", "later"):
                 return self.holds_of_twins(name)

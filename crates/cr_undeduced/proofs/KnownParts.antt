@@ -65,7 +65,7 @@ module _ (u : Option ℕ) (T : History) (at : Around) (stamp : Stamp) (more : Bo
   abbrev pub tells : {A : Type 0} → PartFor (Option A) → Entry → Bool
   tells part e = is_told u T at.before at.after stamp.maker e && is_some (part u T at.before at.after stamp e)
 
-  told : (e : Entry) → IsWithin T at e → (p : Part) → shown e p ≡ true
+  pub told : (e : Entry) → IsWithin T at e → (p : Part) → shown e p ≡ true
       → is_told u T at.before at.after stamp.maker e ≡ true
   told e within p is =
       sym (seen-told u T at stamp more e within)

@@ -23,3 +23,17 @@ pub mod CameLaws
 pub mod CameReaders
 pub mod DeducedNumbers
 pub mod DeducedChair
+pub mod MakersFacts
+pub mod MakersSaid
+pub mod MakersRight
+pub mod MakersCalls
+pub mod MakersBulks
+pub mod MakersLegal
+pub mod MakersViews
+pub mod TwinFacts
+pub mod TwinSaid
+pub mod TwinNames
+pub mod TwinAdds
+pub mod TwinBulks
+pub mod TwinLegal
+pub mod TwinViews

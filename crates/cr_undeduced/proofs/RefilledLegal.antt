@@ -36,7 +36,7 @@ moved-grows : (H : History) (move : Move) → (g : History) × (moved H move ≡
 moved-grows H (calls call) = followed-grows H (judge (view call.caller H) call)
 moved-grows H (bulks bulk) = followed-grows H (judge_bulk (view (Some bulk.stamp.maker) H) bulk)
 
-leads-grow : (from to : History) (moves : List Move) → LeadsTo from moves to → (g : History) × (to ≡ from ++ g)
+pub leads-grow : (from to : History) (moves : List Move) → LeadsTo from moves to → (g : History) × (to ≡ from ++ g)
 leads-grow from to [] leads = ([], sym leads ∙ sym (append-nil from))
 leads-grow from to (move ∷ moves) leads =
     let first = moved-grows from move in

@@ -3,3 +3,5 @@ pub mod Undeducible
 pub mod MayHaveBeen
 pub mod HowOneCame
 pub mod Deducible
+pub mod Makers
+pub mod Twins

@@ -8,7 +8,9 @@ ghost use Rattle.cr_undeduced.specs.Deducible.{VersionsTell, FormNumbersTell, Co
 ghost use Rattle.cr_undeduced.specs.Deducible.{OneChairActs};
 ghost use Rattle.cr_undeduced.specs.HowOneCame.{MembersCame, AuthorsCame, ReviewersCame, ExternalsCame, ConflictsCame};
 ghost use Rattle.cr_undeduced.specs.HowOneCame.{AcceptedCame, FormReadersCame};
+ghost use Rattle.cr_undeduced.specs.Makers.{OtherMakersLegal, OtherMakersUnseen};
 ghost use Rattle.cr_undeduced.specs.MayHaveBeen.{Inserted, LeftOut, BesidesUnseen};
+ghost use Rattle.cr_undeduced.specs.Twins.{TwinsLegal, TwinsUnseen};
 ghost use Rattle.cr_undeduced.specs.Undeducible.{OthersLegal, ShorterLegal, LooksAlike, GroupAlike};
 
 /// Of what nobody of a group was shown whenever they looked, they can rule out no value, though they tell each other
@@ -76,4 +78,32 @@ pub fn law_deducible()
     ensures comment_numbers { CommentNumbersTell }
     ensures labels { LabelsTell }
     ensures one_chair { OneChairActs }
+{}
+
+/// Who made an entry may have been any other user who had the right then, in each legal history: who turned a phase,
+/// set a mode or a deadline, named or dismissed may have been any other chair; who changed or withdrew a paper, or
+/// responded, any other of its authors; who assigned, took off, invited, took that back, decided, or declared or took
+/// back another's conflict, any other chair in no conflict with the paper; who declared one before the bidding, any
+/// other author; and who bid or turned a tag, any other member in no conflict. So of all entries at once, each command
+/// and bulk by another for itself: the history in which these made them is legal, where another's command has no
+/// number (`legal`). A bulk's entries have one maker, who is a chair. Whoever is neither of the two, and by the bounds
+/// isn't told who made the entry, sees the same when she looks (`unseen`); she must not be an author of a paper with
+/// which a conflict was declared by an author in one of the two histories alone, since authors are told what authors
+/// declare. Not of registrations, submissions, uploads, forms and comments: rules and labels read who made these.
+pub fn law_makers()
+    ensures legal { OtherMakersLegal }
+    ensures unseen { OtherMakersUnseen }
+{}
+
+/// Two users of one role, of whom neither wrote a paper, are twins at it: they may have had each other's place there.
+/// Take a legal history, and the one in which they change places in every entry on the paper, as who made it and as
+/// whom it names: who bid, is declared in conflict, invited or assigned, wrote forms and comments, turned tags, decided,
+/// assigned, invited. That history is legal (`legal`), where at each entry that names another then, or is made by
+/// another, both have registered and have the same role; where none that changes hands is one of several of a bulk,
+/// whose other rows may be on other papers; and where nobody has written more than 1,000 comments in it. Another's
+/// command has no number there. Whoever is neither of the two, and by the bounds isn't told who made these entries nor
+/// whom they name, sees the same when she looks (`unseen`).
+pub fn law_twins()
+    ensures legal { TwinsLegal }
+    ensures unseen { TwinsUnseen }
 {}

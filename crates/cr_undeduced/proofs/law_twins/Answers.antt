@@ -1,0 +1,9 @@
+use Rattle.cr_undeduced.proofs.TwinLegal.{twins_legal}
+use Rattle.cr_undeduced.proofs.TwinViews.{twins_unseen}
+use Rattle.cr_undeduced.proofs.law_twins.Goals as goal
+
+pub returns-clause-legal : goal.returns-clause-legal
+returns-clause-legal c = twins_legal
+
+pub returns-clause-unseen : goal.returns-clause-unseen
+returns-clause-unseen c = twins_unseen
