@@ -37,3 +37,4 @@ pub mod TwinAdds
 pub mod TwinBulks
 pub mod TwinLegal
 pub mod TwinViews
+pub mod TwinUnnamed

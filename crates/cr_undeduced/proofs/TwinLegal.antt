@@ -370,11 +370,11 @@ all-steps t stamp H A (e ∷ next ∷ es) alike no_one no_other peers stays =
     let same = append_assoc H (stamped stamp true e ∷ []) (grouped stamp (next ∷ es)) in (
       step-of t stamp H A (grouped stamp (e ∷ next ∷ es)) e true alike no_one no_other peers.0 stays,
       all-steps t stamp (H ++ stamped stamp true e ∷ []) (A ++ stamped (hers t stamp.maker stamp.at) false e ∷ [])
-      (next ∷ es)
-      (alike-append H A (stamped stamp true e ∷ []) (stamped (hers t stamp.maker stamp.at) false e ∷ []) alike
-      (λ X told blind. refl))
-      (ap (is_author (Some t.one) t.paper) same ∙ no_one) (ap (is_author (Some t.other) t.paper) same ∙ no_other) peers.2
-      (stay-hers t H stamp e next es peers).1,
+          (next ∷ es)
+          (alike-append H A (stamped stamp true e ∷ []) (stamped (hers t stamp.maker stamp.at) false e ∷ []) alike
+          (λ X told blind. refl))
+          (ap (is_author (Some t.one) t.paper) same ∙ no_one) (ap (is_author (Some t.other) t.paper) same ∙ no_other) peers.2
+          (stay-hers t H stamp e next es peers).1,
     )
 
 module _ (t : Twins) (A : History) (legal : Legal A) (legal' : Legal (twinned t A)) (stamp : Stamp)

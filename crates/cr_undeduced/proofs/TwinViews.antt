@@ -53,7 +53,7 @@ module _ (t : Twins) (u : Option ℕ) (one : is_number u t.one ≡ false) (other
       by true false a true b = ap (is_number u) (eqb-true v t.other b) ∙ other ∙ sym one
       by true false a false b = refl
 
-  outside-moved : (p v : ℕ) → eqb (placed t p v) v ≡ false → is_number u v ≡ false
+  pub outside-moved : (p v : ℕ) → eqb (placed t p v) v ≡ false → is_number u v ≡ false
   outside-moved p v moved = by (eqb p t.paper) (eqb v t.one) refl (eqb v t.other) refl moved
     where
       same : (w : ℕ) → eqb w w ≡ false → ⊥
@@ -180,101 +180,102 @@ module _ (t : Twins) (u : Option ℕ) (T : History) (at : Around) (stamp : Stamp
 
   module _ (hides : (e : Entry) → eqb (twin_maker t stamp.maker e) stamp.maker ≡ false → is_number u stamp.maker ≡ false)
     where
-    parts-twin : (e : Entry)
-        → (not (eqb (twin_maker t stamp.maker e) stamp.maker) ≡ true → Untold maker_for e)
-        → (renames t e ≡ true → Untold user_for e)
-        → masked (sees e) false (entire stamp e)
-        ≡ masked (sees e) false (entire (stamp_of (twin_maker t stamp.maker e) stamp) (twin_entry t e))
-    parts-twin (entries.Conflict paper user on) unmade unnamed =
-        let e : Entry = entries.Conflict paper user on in
-        let same : Restamped (stamp_of (placed t paper stamp.maker) stamp) e =
-        restamped (placed t paper stamp.maker) e (hides e) (key-one u T at stamp more e) in
-        λ i. record (masked (sees e) false (entire stamp e)) {
-          user = user-hidden e paper user tt (user-one u T at stamp more e)
-              (λ h. unnamed (changed (eqb (placed t paper user) user) h)) i;
-          at = where_shown (sees e part.at) (Some (same.moment i));
-          key = same.key i;
-        }
-    parts-twin (entries.Assigned paper user kind ordinal) unmade unnamed =
-        let e : Entry = entries.Assigned paper user kind ordinal in
-        let same : Restamped (stamp_of (placed t paper stamp.maker) stamp) e =
-        restamped (placed t paper stamp.maker) e (hides e) (key-one u T at stamp more e) in
-        λ i. record (masked (sees e) false (entire stamp e)) {
-          user = user-hidden e paper user tt (user-one u T at stamp more e)
-              (λ h. unnamed (changed (eqb (placed t paper user) user) h)) i;
-          at = where_shown (sees e part.at) (Some (same.moment i));
-          key = same.key i;
-        }
-    parts-twin (entries.Unassigned paper user ordinal) unmade unnamed =
-        let e : Entry = entries.Unassigned paper user ordinal in
-        let same : Restamped (stamp_of (placed t paper stamp.maker) stamp) e =
-        restamped (placed t paper stamp.maker) e (hides e) (key-one u T at stamp more e) in
-        λ i. record (masked (sees e) false (entire stamp e)) {
-          user = user-hidden e paper user tt (user-one u T at stamp more e)
-              (λ h. unnamed (changed (eqb (placed t paper user) user) h)) i;
-          at = where_shown (sees e part.at) (Some (same.moment i));
-          key = same.key i;
-        }
-    parts-twin (entries.Invited paper user) unmade unnamed =
-        let e : Entry = entries.Invited paper user in
-        let same : Restamped (stamp_of (placed t paper stamp.maker) stamp) e =
-        restamped (placed t paper stamp.maker) e (hides e) (key-one u T at stamp more e) in
-        λ i. record (masked (sees e) false (entire stamp e)) {
-          user = user-hidden e paper user tt (user-one u T at stamp more e)
-              (λ h. unnamed (changed (eqb (placed t paper user) user) h)) i;
-          at = where_shown (sees e part.at) (Some (same.moment i));
-          key = same.key i;
-        }
-    parts-twin (entries.Uninvited paper user) unmade unnamed =
-        let e : Entry = entries.Uninvited paper user in
-        let same : Restamped (stamp_of (placed t paper stamp.maker) stamp) e =
-        restamped (placed t paper stamp.maker) e (hides e) (key-one u T at stamp more e) in
-        λ i. record (masked (sees e) false (entire stamp e)) {
-          user = user-hidden e paper user tt (user-one u T at stamp more e)
-              (λ h. unnamed (changed (eqb (placed t paper user) user) h)) i;
-          at = where_shown (sees e part.at) (Some (same.moment i));
-          key = same.key i;
-        }
-    parts-twin (entries.Bid paper value) unmade unnamed =
-        let e : Entry = entries.Bid paper value in
-        let same : Restamped (stamp_of (placed t paper stamp.maker) stamp) e =
-        restamped (placed t paper stamp.maker) e (hides e) (key-one u T at stamp more e) in
-        λ i. record (masked (sees e) false (entire stamp e)) {
-          by = maker-hidden e (placed t paper stamp.maker) tt (maker-one u T at stamp more e)
-              (λ h. unmade (changed (eqb (placed t paper stamp.maker) stamp.maker) h)) i;
-          at = where_shown (sees e part.at) (Some (same.moment i));
-          key = same.key i;
-        }
-    parts-twin (entries.Commented paper n ordinal text) unmade unnamed =
-        let e : Entry = entries.Commented paper n ordinal text in
-        let same : Restamped (stamp_of (placed t paper stamp.maker) stamp) e =
-        restamped (placed t paper stamp.maker) e (hides e) (key-one u T at stamp more e) in
-        λ i. record (masked (sees e) false (entire stamp e)) {
-          by = maker-hidden e (placed t paper stamp.maker) tt (maker-one u T at stamp more e)
-              (λ h. unmade (changed (eqb (placed t paper stamp.maker) stamp.maker) h)) i;
-          at = where_shown (sees e part.at) (Some (same.moment i));
-          key = same.key i;
-        }
-    parts-twin (entries.Submitted paper title abstract) unmade unnamed =
-        let e : Entry = entries.Submitted paper title abstract in
-        ap (λ (other : Stamp). masked (sees e) false (entire other e))
-        (sym (stamp-same stamp.maker stamp (itself stamp.maker)))
-    parts-twin e unmade unnamed =
-        let same : Restamped (stamp_of (twin_maker t stamp.maker e) stamp) e =
-        restamped (twin_maker t stamp.maker e) e (hides e) (key-one u T at stamp more e) in
-        λ i. record (masked (sees e) false (entire stamp e)) {
-          at = where_shown (sees e part.at) (Some (same.moment i));
-          key = same.key i;
-        }
+      parts-twin : (e : Entry)
+          → (not (eqb (twin_maker t stamp.maker e) stamp.maker) ≡ true → Untold maker_for e)
+          → (renames t e ≡ true → Untold user_for e)
+          → masked (sees e) false (entire stamp e)
+          ≡ masked (sees e) false (entire (stamp_of (twin_maker t stamp.maker e) stamp) (twin_entry t e))
+      parts-twin (entries.Conflict paper user on) unmade unnamed =
+          let e : Entry = entries.Conflict paper user on in
+          let same : Restamped (stamp_of (placed t paper stamp.maker) stamp) e =
+          restamped (placed t paper stamp.maker) e (hides e) (key-one u T at stamp more e) in
+          λ i. record (masked (sees e) false (entire stamp e)) {
+            user = user-hidden e paper user tt (user-one u T at stamp more e)
+                (λ h. unnamed (changed (eqb (placed t paper user) user) h)) i;
+            at = where_shown (sees e part.at) (Some (same.moment i));
+            key = same.key i;
+          }
+      parts-twin (entries.Assigned paper user kind ordinal) unmade unnamed =
+          let e : Entry = entries.Assigned paper user kind ordinal in
+          let same : Restamped (stamp_of (placed t paper stamp.maker) stamp) e =
+          restamped (placed t paper stamp.maker) e (hides e) (key-one u T at stamp more e) in
+          λ i. record (masked (sees e) false (entire stamp e)) {
+            user = user-hidden e paper user tt (user-one u T at stamp more e)
+                (λ h. unnamed (changed (eqb (placed t paper user) user) h)) i;
+            at = where_shown (sees e part.at) (Some (same.moment i));
+            key = same.key i;
+          }
+      parts-twin (entries.Unassigned paper user ordinal) unmade unnamed =
+          let e : Entry = entries.Unassigned paper user ordinal in
+          let same : Restamped (stamp_of (placed t paper stamp.maker) stamp) e =
+          restamped (placed t paper stamp.maker) e (hides e) (key-one u T at stamp more e) in
+          λ i. record (masked (sees e) false (entire stamp e)) {
+            user = user-hidden e paper user tt (user-one u T at stamp more e)
+                (λ h. unnamed (changed (eqb (placed t paper user) user) h)) i;
+            at = where_shown (sees e part.at) (Some (same.moment i));
+            key = same.key i;
+          }
+      parts-twin (entries.Invited paper user) unmade unnamed =
+          let e : Entry = entries.Invited paper user in
+          let same : Restamped (stamp_of (placed t paper stamp.maker) stamp) e =
+          restamped (placed t paper stamp.maker) e (hides e) (key-one u T at stamp more e) in
+          λ i. record (masked (sees e) false (entire stamp e)) {
+            user = user-hidden e paper user tt (user-one u T at stamp more e)
+                (λ h. unnamed (changed (eqb (placed t paper user) user) h)) i;
+            at = where_shown (sees e part.at) (Some (same.moment i));
+            key = same.key i;
+          }
+      parts-twin (entries.Uninvited paper user) unmade unnamed =
+          let e : Entry = entries.Uninvited paper user in
+          let same : Restamped (stamp_of (placed t paper stamp.maker) stamp) e =
+          restamped (placed t paper stamp.maker) e (hides e) (key-one u T at stamp more e) in
+          λ i. record (masked (sees e) false (entire stamp e)) {
+            user = user-hidden e paper user tt (user-one u T at stamp more e)
+                (λ h. unnamed (changed (eqb (placed t paper user) user) h)) i;
+            at = where_shown (sees e part.at) (Some (same.moment i));
+            key = same.key i;
+          }
+      parts-twin (entries.Bid paper value) unmade unnamed =
+          let e : Entry = entries.Bid paper value in
+          let same : Restamped (stamp_of (placed t paper stamp.maker) stamp) e =
+          restamped (placed t paper stamp.maker) e (hides e) (key-one u T at stamp more e) in
+          λ i. record (masked (sees e) false (entire stamp e)) {
+            by = maker-hidden e (placed t paper stamp.maker) tt (maker-one u T at stamp more e)
+                (λ h. unmade (changed (eqb (placed t paper stamp.maker) stamp.maker) h)) i;
+            at = where_shown (sees e part.at) (Some (same.moment i));
+            key = same.key i;
+          }
+      parts-twin (entries.Commented paper n ordinal text) unmade unnamed =
+          let e : Entry = entries.Commented paper n ordinal text in
+          let same : Restamped (stamp_of (placed t paper stamp.maker) stamp) e =
+          restamped (placed t paper stamp.maker) e (hides e) (key-one u T at stamp more e) in
+          λ i. record (masked (sees e) false (entire stamp e)) {
+            by = maker-hidden e (placed t paper stamp.maker) tt (maker-one u T at stamp more e)
+                (λ h. unmade (changed (eqb (placed t paper stamp.maker) stamp.maker) h)) i;
+            at = where_shown (sees e part.at) (Some (same.moment i));
+            key = same.key i;
+          }
+      parts-twin (entries.Submitted paper title abstract) unmade unnamed =
+          let e : Entry = entries.Submitted paper title abstract in
+          ap (λ (other : Stamp). masked (sees e) false (entire other e))
+          (sym (stamp-same stamp.maker stamp (itself stamp.maker)))
+      parts-twin e unmade unnamed =
+          let same : Restamped (stamp_of (twin_maker t stamp.maker e) stamp) e =
+          restamped (twin_maker t stamp.maker e) e (hides e) (key-one u T at stamp more e) in
+          λ i. record (masked (sees e) false (entire stamp e)) {
+            at = where_shown (sees e part.at) (Some (same.moment i));
+            key = same.key i;
+          }
 
 -- ---- place by place
 
 alike-twin : (t : Twins) (before H : History)
     → PlaceByPlace (λ at e other. outline e ≡ outline other) before H (twinned t H)
 alike-twin t before [] = tt
-alike-twin t before (e ∷ H) =
-    (outline-twin t e.stamp (stamp_of (twin_maker t e.stamp.maker e.entry) e.stamp) e.more e.entry,
-    alike-twin t (before ++ e ∷ []) H)
+alike-twin t before (e ∷ H) = (
+  outline-twin t e.stamp (stamp_of (twin_maker t e.stamp.maker e.entry) e.stamp) e.more e.entry,
+  alike-twin t (before ++ e ∷ []) H,
+)
 
 hidden-twin : (t : Twins) (u : Option ℕ) (T : History) → IsOutside t u T → (before H : History) → AreUntold t u T before H
     → PlaceByPlace (IsHiddenFrom (reader u T)) before H (twinned t H)

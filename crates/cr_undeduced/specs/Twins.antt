@@ -1,6 +1,6 @@
 -- Twins: two users of one role, of whom neither wrote a paper, change places at it: whoever saw neither of them named
 -- can't tell which of the two bid, reviews, comments, was declared in conflict or invited, decided or assigned there.
-use Rattle.std.specs.Prelude.{ℕ, Bool, false, not, ◌==◌, ◌||◌, ◌≡◌, ◌≤◌, [], ◌∷◌, ◌++◌, Option, Some, map}
+use Rattle.std.specs.Prelude.{ℕ, Bool, false, not, ◌==◌, ◌||◌, ◌&&◌, ◌≡◌, ◌≤◌, [], ◌∷◌, ◌++◌, Option, Some, map}
 use Rattle.std.specs.Prelude.{take, IsTrue, IsFalse, if◌then◌else◌}
 use Rattle.cr_base.specs.declared.entry.Entry.{Entry}
 use Rattle.cr_base.specs.declared.entry.Entry.TheVariants.{Conflict, Bid, Assigned, Unassigned, Reviewed, Commented}
@@ -8,9 +8,9 @@ use Rattle.cr_base.specs.declared.entry.Entry.TheVariants.{Tagged, Decided, Invi
 use Rattle.cr_base.specs.declared.entry.Stamped.{Stamped}
 use Rattle.cr_base.specs.Drawn.{stamped}
 use Rattle.cr_base.specs.History.{History}
-use Rattle.cr_base.specs.HistoryFacts.{role_of, is_author, own_comments_of}
+use Rattle.cr_base.specs.HistoryFacts.{mode_of, role_of, is_author, own_comments_of}
 use Rattle.cr_base.specs.Lists.{is_number}
-use Rattle.cr_bounds.specs.ShownTo.{maker_for, user_for}
+use Rattle.cr_bounds.specs.ShownTo.{maker_for, user_for, hides_reviewers, names_reviewers, chairs_committee}
 use Rattle.cr_history.specs.Invariants.{IsRegistered}
 use Rattle.cr_policy.specs.Legal.{Legal}
 use Rattle.cr_undeduced.specs.Makers.{stamp_of}
@@ -121,6 +121,32 @@ pub record IsOutside (t : Twins) (u : Option ℕ) (H : History) : Type 0 where
   pub other_wrote : IsFalse (is_author (Some t.other) t.paper H)
   pub untold : AreUntold t u H [] H
 
+-- ---- who is shown no names
+
+-- in the anonymous mode she is no chair; or she is an author of the paper, in any mode but the open one
+abbrev pub is_blind_to : Option ℕ → ℕ → History → Bool
+is_blind_to u paper H =
+    (hides_reviewers (mode_of H) && not (chairs_committee (role_of u H)))
+    || (is_author u paper H && not (names_reviewers (mode_of H)))
+
+-- none of the entries that name one of the two she made herself, as a chair who was dismissed has; nor is one a
+-- declaration of another of its authors, where she is an author
+abbrev pub NoneIsHers : Twins → Option ℕ → History → History → Type 0
+NoneIsHers t u H [] = Unit {0}
+NoneIsHers t u H (e ∷ later) =
+    (IsTrue (renames t e.entry) → IsFalse (is_number u e.stamp.maker)
+    × IsFalse (is_author u t.paper H && is_author (Some e.stamp.maker) t.paper H))
+    × NoneIsHers t u H later
+
+-- she is neither of the two, and so it is
+pub record IsShownNoNames (t : Twins) (u : Option ℕ) (H : History) : Type 0 where
+  pub one : IsFalse (is_number u t.one)
+  pub other : IsFalse (is_number u t.other)
+  pub one_wrote : IsFalse (is_author (Some t.one) t.paper H)
+  pub other_wrote : IsFalse (is_author (Some t.other) t.paper H)
+  pub blind : IsTrue (is_blind_to u t.paper H)
+  pub none : NoneIsHers t u H H
+
 -- ---- the clauses
 
 -- TwinsLegal: the history in which twins have each other's place is legal
@@ -130,4 +156,9 @@ TwinsLegal = (t : Twins) (H : History) → Legal H → AreTwins t H → Legal (t
 -- TwinsUnseen: and whoever isn't shown their makers and users when she looks sees the same of both, legal or not
 abbrev pub TwinsUnseen : Type 0
 TwinsUnseen = (t : Twins) (H : History) (look : Look) → IsOutside t look.who (take look.upto H)
+    → seen_at H look ≡ seen_at (twinned t H) look
+
+-- TwinsUnnamed: so whoever is shown no names at the paper sees the same, in a committee's words
+abbrev pub TwinsUnnamed : Type 0
+TwinsUnnamed = (t : Twins) (H : History) (look : Look) → IsShownNoNames t look.who (take look.upto H)
     → seen_at H look ≡ seen_at (twinned t H) look

@@ -10,7 +10,7 @@ ghost use Rattle.cr_undeduced.specs.HowOneCame.{MembersCame, AuthorsCame, Review
 ghost use Rattle.cr_undeduced.specs.HowOneCame.{AcceptedCame, FormReadersCame};
 ghost use Rattle.cr_undeduced.specs.Makers.{OtherMakersLegal, OtherMakersUnseen};
 ghost use Rattle.cr_undeduced.specs.MayHaveBeen.{Inserted, LeftOut, BesidesUnseen};
-ghost use Rattle.cr_undeduced.specs.Twins.{TwinsLegal, TwinsUnseen};
+ghost use Rattle.cr_undeduced.specs.Twins.{TwinsLegal, TwinsUnseen, TwinsUnnamed};
 ghost use Rattle.cr_undeduced.specs.Undeducible.{OthersLegal, ShorterLegal, LooksAlike, GroupAlike};
 
 /// Of what nobody of a group was shown whenever they looked, they can rule out no value, though they tell each other
@@ -102,8 +102,11 @@ pub fn law_makers()
 /// another, both have registered and have the same role; where none that changes hands is one of several of a bulk,
 /// whose other rows may be on other papers; and where nobody has written more than 1,000 comments in it. Another's
 /// command has no number there. Whoever is neither of the two, and by the bounds isn't told who made these entries nor
-/// whom they name, sees the same when she looks (`unseen`).
+/// whom they name, sees the same when she looks (`unseen`). So it is in the anonymous mode of everyone but chairs, and in
+/// any mode but the open one of the paper's authors, where she made none of the entries that name one of the two
+/// herself, as a chair who was dismissed has, and no author of a paper of hers declared one of them (`unnamed`).
 pub fn law_twins()
     ensures legal { TwinsLegal }
     ensures unseen { TwinsUnseen }
+    ensures unnamed { TwinsUnnamed }
 {}

@@ -1,4 +1,5 @@
 use Rattle.cr_undeduced.proofs.TwinLegal.{twins_legal}
+use Rattle.cr_undeduced.proofs.TwinUnnamed.{twins_unnamed}
 use Rattle.cr_undeduced.proofs.TwinViews.{twins_unseen}
 use Rattle.cr_undeduced.proofs.law_twins.Goals as goal
 
@@ -7,3 +8,6 @@ returns-clause-legal c = twins_legal
 
 pub returns-clause-unseen : goal.returns-clause-unseen
 returns-clause-unseen c = twins_unseen
+
+pub returns-clause-unnamed : goal.returns-clause-unnamed
+returns-clause-unnamed c = twins_unnamed
