@@ -187,7 +187,8 @@ def other_payload(seed, place):
     return {"digest": text(), "title": text(), "abstract_": text(), "content": text(), "value": dice.randint(0, 40),
             "kind": (dice.choice(["Primary", "Secondary", "Pc"]),), "form": form, "text": text(),
             "tag": words(f"{dice.choice(['', '~', '~~'])}t{dice.randint(10, 99)}"), "on": dice.random() < 0.5,
-            "decision": (dice.choice(["Accept", "Reject"]),)}
+            "decision": (dice.choice(["Accept", "Reject"]),), "at": dice.randint(3_000, 4_000),
+            "key": dice.choice([NOBODY, ("Some", {"number": dice.randint(5_000, 9_000), "mark": text()})])}
 
 
 def looks_at(seed, history):

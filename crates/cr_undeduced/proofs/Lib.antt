@@ -10,6 +10,10 @@ pub mod RefilledTexts
 pub mod RefilledViews
 pub mod KnownParts
 pub mod LooksAccepted
+pub mod StampedGroups
+pub mod StampedJudged
+pub mod StampedLegal
+pub mod StampedLooks
 pub mod LooksTags
 pub mod LooksLaws
 pub mod UndeducibleLaws

@@ -1,6 +1,6 @@
 -- At each look the same is seen: what was known stays, and the same papers are accepted.
 use Rattle.std.proofs.Common.{ℕ, Bool, true, false, ◌≡◌, suc, zero, List, [], ◌∷◌, ◌++◌, refl, sym, ap, ◌∙◌, ◌||◌}
-use Rattle.std.proofs.Common.{Option, append_assoc, length, take_all, arith}
+use Rattle.std.proofs.Common.{Option, None, append_assoc, length, take_all, arith}
 use Rattle.std.specs.Prelude.{map, take}
 use Rattle.std.specs.List.{AllByRecursion}
 use Rattle.cr_base.specs.declared.entry.Entry.{Entry}
@@ -15,14 +15,17 @@ use Rattle.cr_bounds.specs.ShownTo.{switch_for}
 use Rattle.cr_policy.specs.Triggers.{reader, Around}
 use Rattle.cr_policy.specs.View.{view}
 use Rattle.cr_bounds.proofs.BoundsWalk.{within-one, Writes, writers-all}
+use Rattle.cr_undeduced.specs.OtherStamps.{with_stamps}
 use Rattle.cr_undeduced.specs.Payload.{Payload}
 use Rattle.cr_undeduced.specs.Undeducible.{Look, Looking, looking_at, past_one, was_told, any_told, known_of}
-use Rattle.cr_undeduced.specs.Undeducible.{any_final, LooksAlike, GroupAlike, all_at_end, otherwise, seen_at}
+use Rattle.cr_undeduced.specs.Undeducible.{any_final, LooksAlike, GroupAlike, all_at_end, who_looked, with_values}
+use Rattle.cr_undeduced.specs.Undeducible.{otherwise, seen_at}
 use Rattle.cr_undeduced.proofs.Fill.{fill, refilled, mixed, retold-own, mixed-fills, with_tags, mixed_but_tags}
 use Rattle.cr_undeduced.proofs.Fill.{mixed_behind, others-filled}
 use Rattle.cr_undeduced.proofs.KnownParts.{KnowsAll, entry-kept}
 use Rattle.cr_undeduced.proofs.LooksAccepted.{accepted-then}
 use Rattle.cr_undeduced.proofs.LooksTags.{tags-unseen}
+use Rattle.cr_undeduced.proofs.StampedLooks.{stamped-take, stamps-alike}
 use Rattle.cr_undeduced.proofs.RefilledViews.{KeepsTag, KeepTags, refilled-unseen}
 use Rattle.cr_undeduced.proofs.Among.{Among, among-contained, among-map}
 
@@ -113,8 +116,8 @@ module _ (looks : List Look) (xs : ℕ → Payload) (H : History) where
   abbrev ys : ℕ → Payload
   ys = mixed_behind all [] xs H
 
-  among_alike : (look : Look) → Among look looks → seen_at H look ≡ seen_at (otherwise looks xs H) look
-  among_alike look among =
+  values_alike : (look : Look) → Among look looks → seen_at H look ≡ seen_at (with_values looks xs H) look
+  values_alike look among =
       let stood : History = take look.upto H in
       let there : Among (looking_at H look) all = among-map (looking_at H) look looks among in
       refilled-unseen (mixed_but_tags all [] xs H) stood look.who (tags-kept look.upto all xs [] H)
@@ -123,12 +126,23 @@ module _ (looks : List Look) (xs : ℕ → Payload) (H : History) where
       ∙ tags-unseen look.who stood look.upto all xs H there refl
       ∙ ap (view look.who) (sym (refilled-take look.upto ys H) ∙ ap (take look.upto) (sym (others-filled all [] xs H)))
 
-  whole : take (length H) (otherwise looks xs H) ≡ otherwise looks xs H
-  whole =
+  among_alike : (look : Look) → Among look looks → seen_at H look ≡ seen_at (otherwise looks xs H) look
+  among_alike look among =
+      values_alike look among
+      ∙ stamps-alike (who_looked looks) look.who (among-map (λ (look : Look). look.who) look looks among) look.upto xs
+      (with_values looks xs H)
+
+  whole_values : take (length H) (with_values looks xs H) ≡ with_values looks xs H
+  whole_values =
       ap (take (length H)) (others-filled all [] xs H)
       ∙ refilled-take (length H) ys H
       ∙ ap (refilled ys) (take_all (length H) H (omega arith))
       ∙ sym (others-filled all [] xs H)
+
+  whole : take (length H) (otherwise looks xs H) ≡ otherwise looks xs H
+  whole =
+      stamped-take (who_looked looks) (length H) None xs (with_values looks xs H)
+      ∙ ap (with_stamps (who_looked looks) None xs) whole_values
 
 pub looks_alike : LooksAlike
 looks_alike looks xs H look is = among_alike looks xs H look (among-contained look looks is)

@@ -285,7 +285,8 @@ module _ (stamp : Stamp) where
     pub group : drawn.group ≡ refilled xs given.group
 
   pub bulk-refilled : (xs : ℕ → Payload) → ((n : ℕ) → IsBoundedPayload (xs n)) → (H : History) (rows : List BulkRow)
-      (drawn : Drawn) → IsReady stamp H → IsReady stamp (refilled xs H) → judge_bulk (view (Some user) H) (bulk rows) ≡ Ok drawn
+      (drawn : Drawn) → IsReady stamp H → IsReady stamp (refilled xs H)
+      → judge_bulk (view (Some user) H) (bulk rows) ≡ Ok drawn
       → BulkFilled (judge_bulk (view (Some user) (refilled xs H)) (bulk (fill_rows (behind (length H) xs) rows)))
       (behind (length H) xs) drawn
   bulk-refilled xs bounded H rows drawn ready ready' accepted =

@@ -15,6 +15,8 @@ use Rattle.cr_base.specs.declared.reply.Rule.{Rule}
 use Rattle.cr_base.specs.Bounds.{IsGrade, IsForm}
 use Rattle.cr_base.specs.Drawn.{Drawn, stamped, grouped, besides}
 use Rattle.cr_base.specs.History.{History}
+use Rattle.cr_base.specs.Keys.{IsKeyOrNone}
+use Rattle.cr_base.specs.Moments.{IsMoment}
 use Rattle.cr_base.specs.TagTexts.{is_tag}
 use Rattle.cr_base.specs.Texts.{IsTitle, IsAbstract, IsContent, IsReviewText, IsCommentText}
 use Rattle.cr_history.specs.Groups.{HasTexts, Adds, single, submitted, first_user, Grows, adds, goes_on}
@@ -120,8 +122,9 @@ either P true own other p q = p
 either P false own other p q = q
 
 all-bounded : (x : Payload) → length x.digest ≡ 32 → IsTitle x.title → IsAbstract x.abstract_ → IsContent x.content
-    → x.value ≤ 40 → IsForm x.form → IsCommentText x.text → is_tag x.tag ≡ true → IsBoundedPayload x
-all-bounded x digest title abstract content value form text tag = record {
+    → x.value ≤ 40 → IsForm x.form → IsCommentText x.text → is_tag x.tag ≡ true → IsMoment x.at → IsKeyOrNone x.key
+    → IsBoundedPayload x
+all-bounded x digest title abstract content value form text tag moment key = record {
   digest = digest;
   title = title;
   abstract_ = abstract;
@@ -130,6 +133,8 @@ all-bounded x digest title abstract content value form text tag = record {
   form = form;
   text = text;
   tag = tag;
+  moment = moment;
+  key = key;
 }
 
 form-mixed : (known : Known) (own other : Form) → IsForm own → IsForm other → IsForm (record {
@@ -151,50 +156,51 @@ mixed-bounded : (known : Known) (e : Entry) (x : Payload) → HasTexts e → IsB
 mixed-bounded known (entries.Registered user name digest) x texts bounded =
     all-bounded (mixed known (entries.Registered user name digest) x)
     (either (λ (d : List ℕ). length d ≡ 32) known.digest digest x.digest texts.1 bounded.digest) bounded.title
-    bounded.abstract_ bounded.content bounded.value bounded.form bounded.text bounded.tag
+    bounded.abstract_ bounded.content bounded.value bounded.form bounded.text bounded.tag bounded.moment bounded.key
 mixed-bounded known (entries.Submitted paper title abstract) x texts bounded =
     all-bounded (mixed known (entries.Submitted paper title abstract) x)
     bounded.digest (either IsTitle known.title title x.title texts.0 bounded.title)
     (either IsAbstract known.abstract_ abstract x.abstract_ texts.1 bounded.abstract_) bounded.content
-    bounded.value bounded.form bounded.text bounded.tag
+    bounded.value bounded.form bounded.text bounded.tag bounded.moment bounded.key
 mixed-bounded known (entries.Revised paper title abstract) x texts bounded =
     all-bounded (mixed known (entries.Revised paper title abstract) x)
     bounded.digest (either IsTitle known.title title x.title texts.0 bounded.title)
     (either IsAbstract known.abstract_ abstract x.abstract_ texts.1 bounded.abstract_) bounded.content
-    bounded.value bounded.form bounded.text bounded.tag
+    bounded.value bounded.form bounded.text bounded.tag bounded.moment bounded.key
 mixed-bounded known (entries.Uploaded paper version content) x texts bounded =
     all-bounded (mixed known (entries.Uploaded paper version content) x)
     bounded.digest bounded.title bounded.abstract_
     (either (λ (c : List ℕ). IsContent c) known.content content x.content texts bounded.content) bounded.value
-    bounded.form bounded.text bounded.tag
+    bounded.form bounded.text bounded.tag bounded.moment bounded.key
 mixed-bounded known (entries.Bid paper value) x texts bounded =
     all-bounded (mixed known (entries.Bid paper value) x)
     bounded.digest bounded.title bounded.abstract_ bounded.content
     (either (λ n. n ≤ 40) known.value value x.value texts bounded.value) bounded.form bounded.text bounded.tag
+    bounded.moment bounded.key
 mixed-bounded known (entries.Assigned paper user review_kind ordinal) x texts bounded =
     all-bounded (mixed known (entries.Assigned paper user review_kind ordinal) x)
     bounded.digest bounded.title bounded.abstract_ bounded.content bounded.value bounded.form bounded.text
-    bounded.tag
+    bounded.tag bounded.moment bounded.key
 mixed-bounded known (entries.Reviewed paper ordinal version form) x texts bounded =
     all-bounded (mixed known (entries.Reviewed paper ordinal version form) x)
     bounded.digest bounded.title bounded.abstract_ bounded.content bounded.value
-    (form-mixed known form x.form texts bounded.form) bounded.text bounded.tag
+    (form-mixed known form x.form texts bounded.form) bounded.text bounded.tag bounded.moment bounded.key
 mixed-bounded known (entries.Commented paper n ordinal text) x texts bounded =
     all-bounded (mixed known (entries.Commented paper n ordinal text) x)
     bounded.digest bounded.title bounded.abstract_ bounded.content bounded.value bounded.form
-    (either IsCommentText known.text text x.text texts bounded.text) bounded.tag
+    (either IsCommentText known.text text x.text texts bounded.text) bounded.tag bounded.moment bounded.key
 mixed-bounded known (entries.Tagged paper tag on) x texts bounded =
     all-bounded (mixed known (entries.Tagged paper tag on) x)
     bounded.digest bounded.title bounded.abstract_ bounded.content bounded.value bounded.form bounded.text
-    (either (λ (t : List ℕ). is_tag t ≡ true) known.tag tag x.tag texts bounded.tag)
+    (either (λ (t : List ℕ). is_tag t ≡ true) known.tag tag x.tag texts bounded.tag) bounded.moment bounded.key
 mixed-bounded known (entries.Decided paper decision) x texts bounded =
     all-bounded (mixed known (entries.Decided paper decision) x)
     bounded.digest bounded.title bounded.abstract_ bounded.content bounded.value bounded.form bounded.text
-    bounded.tag
+    bounded.tag bounded.moment bounded.key
 mixed-bounded known (entries.Responded paper text) x texts bounded =
     all-bounded (mixed known (entries.Responded paper text) x)
     bounded.digest bounded.title bounded.abstract_ bounded.content bounded.value bounded.form
-    (either IsCommentText known.text text x.text texts bounded.text) bounded.tag
+    (either IsCommentText known.text text x.text texts bounded.text) bounded.tag bounded.moment bounded.key
 mixed-bounded known e x texts bounded = bounded
 
 pub mixed_behind-bounded : (looks : List Looking) (before : History) (xs : ℕ → Payload) (H : History)

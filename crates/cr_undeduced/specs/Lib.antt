@@ -1,4 +1,5 @@
 pub mod Payload
+pub mod OtherStamps
 pub mod Undeducible
 pub mod MayHaveBeen
 pub mod HowOneCame

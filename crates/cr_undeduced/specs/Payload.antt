@@ -1,20 +1,24 @@
--- Payload: what an entry may tell that no rule reads, and a history in which some of it is otherwise.
-use Rattle.std.specs.Prelude.{ℕ, Bool, ◌≡◌, ◌≤◌, ◌||◌, ◌&&◌, not, suc, List, [], ◌∷◌, length, IsTrue, if◌then◌else◌}
+-- Payload: what an entry may tell that no rule reads, and an entry in which some of it is otherwise.
+use Rattle.std.specs.Prelude.{ℕ, Bool, ◌≡◌, ◌≤◌, ◌||◌, ◌&&◌, not, suc, List, [], ◌∷◌, length, Option, IsTrue}
+use Rattle.std.specs.Prelude.{if◌then◌else◌}
 use Rattle.cr_base.specs.declared.entry.Entry.{Entry}
 use Rattle.cr_base.specs.declared.entry.Entry.TheVariants.{Registered, Submitted, Revised, Uploaded, Bid, Assigned}
 use Rattle.cr_base.specs.declared.entry.Entry.TheVariants.{Reviewed, Commented, Tagged, Decided, Responded}
 use Rattle.cr_base.specs.declared.form.Form.{Form}
+use Rattle.cr_base.specs.declared.retry.RetryKey.{RetryKey}
 use Rattle.cr_base.specs.declared.words.Decision.{Decision}
 use Rattle.cr_base.specs.declared.words.Kind.{Kind}
 use Rattle.cr_base.specs.Bounds.{IsForm}
 use Rattle.cr_base.specs.History.{History}
+use Rattle.cr_base.specs.Keys.{IsKeyOrNone}
+use Rattle.cr_base.specs.Moments.{IsMoment}
 use Rattle.cr_base.specs.TagTexts.{is_tag}
 use Rattle.cr_base.specs.Texts.{IsTitle, IsAbstract, IsContent, IsCommentText}
 use Rattle.cr_bounds.specs.ShownTo.{is_committees, is_chairs}
 
 -- one of each, of which an entry takes those that its kind has: the digest of a secret, a paper's texts, a content, the
 -- value of a bid, what a reviewer is to a paper, a form, the text of a comment or a response, a tag, whether it is on,
--- and a decision
+-- and a decision; and a moment, and the number and mark of a command, where it has them
 pub record Payload : Type 0 where
   pub digest : List ℕ
   pub title : List ℕ
@@ -27,6 +31,8 @@ pub record Payload : Type 0 where
   pub tag : List ℕ
   pub on : Bool
   pub decision : Decision
+  pub at : ℕ
+  pub key : Option RetryKey
 
 -- each is within the bounds of commands
 pub record IsBoundedPayload (x : Payload) : Type 0 where
@@ -38,6 +44,8 @@ pub record IsBoundedPayload (x : Payload) : Type 0 where
   pub form : IsForm x.form
   pub text : IsCommentText x.text
   pub tag : IsTrue (is_tag x.tag)
+  pub moment : IsMoment x.at
+  pub key : IsKeyOrNone x.key
 
 -- ---- one entry
 

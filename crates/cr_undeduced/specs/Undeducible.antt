@@ -2,7 +2,7 @@
 -- together (nondeducibility: Sutherland, NCSC 1986; with a bound on what may be learnt: Kanav, Lammich and Popescu, CAV
 -- 2014). What somebody is shown is said in the words of the bounds (ShownTo), not in those of the trigger table.
 use Rattle.std.specs.Prelude.{ℕ, Bool, ◌≡◌, ◌≤◌, ◌||◌, ◌&&◌, not, false, suc, List, [], ◌∷◌, ◌++◌, length, map, take}
-use Rattle.std.specs.Prelude.{Option, Some, is_some}
+use Rattle.std.specs.Prelude.{Option, Some, None, is_some}
 use Rattle.std.specs.List.{list_any, Contains}
 use Rattle.cr_base.specs.declared.entry.Entry.{Entry}
 use Rattle.cr_base.specs.declared.entry.Entry.TheVariants.{Decided}
@@ -15,6 +15,7 @@ use Rattle.cr_bounds.specs.ShownTo.{PartFor, is_told, is_decided_again, is_past_
 use Rattle.cr_bounds.specs.ShownTo.{abstract_for, content_for, value_for, review_kind_for, score_for, confidence_for}
 use Rattle.cr_bounds.specs.ShownTo.{to_authors_for, to_pc_for, text_for, tag_for, switch_for, decision_for}
 use Rattle.cr_policy.specs.View.{View, view}
+use Rattle.cr_undeduced.specs.OtherStamps.{with_stamps, StampsFit}
 use Rattle.cr_undeduced.specs.Payload.{Payload, IsBoundedPayload, Known, with_other, NoneLonger}
 
 -- ---- looks
@@ -93,8 +94,16 @@ others_behind looks before xs (e ∷ later) =
     ∷ others_behind (map past_one looks) (before ++ e ∷ []) (λ n. xs (suc n)) later
 
 -- the history with other values of all that was hidden from whoever looked, whenever she did: of all of it at once
+abbrev pub with_values : List Look → (ℕ → Payload) → History → History
+with_values looks xs H = others_behind (map (looking_at H) looks) [] xs H
+
+-- who looked
+abbrev pub who_looked : List Look → List (Option ℕ)
+who_looked looks = map (λ (look : Look). look.who) looks
+
+-- and with other moments, numbers and marks, too, of what none of them made
 abbrev pub otherwise : List Look → (ℕ → Payload) → History → History
-otherwise looks xs H = others_behind (map (looking_at H) looks) [] xs H
+otherwise looks xs H = with_stamps (who_looked looks) None xs (with_values looks xs H)
 
 -- what somebody sees when she looks
 abbrev pub seen_at : History → Look → View
@@ -107,15 +116,15 @@ abbrev pub IsWithinQuota : History → Type 0
 IsWithinQuota H = (user : ℕ) → own_bytes_of (Some user) H ≤ 67108864
 
 -- OthersLegal: whatever the other values are, within the bounds of commands: the other history of a legal one is
--- legal, where nobody has uploaded too much in it
+-- legal, where its stamps are such as these commands might have had, and nobody has uploaded too much in it
 abbrev pub OthersLegal : Type 0
 OthersLegal = (looks : List Look) (xs : ℕ → Payload) (H : History) → Legal H → ((n : ℕ) → IsBoundedPayload (xs n))
-    → IsWithinQuota (otherwise looks xs H) → Legal (otherwise looks xs H)
+    → StampsFit (otherwise looks xs H) H → IsWithinQuota (otherwise looks xs H) → Legal (otherwise looks xs H)
 
 -- ShorterLegal: and it is so where no content is longer than the one whose place it takes
 abbrev pub ShorterLegal : Type 0
 ShorterLegal = (looks : List Look) (xs : ℕ → Payload) (H : History) → Legal H → ((n : ℕ) → IsBoundedPayload (xs n))
-    → NoneLonger xs H → Legal (otherwise looks xs H)
+    → StampsFit (otherwise looks xs H) H → NoneLonger xs H → Legal (otherwise looks xs H)
 
 -- LooksAlike: at each of the looks the same is seen of both histories, legal or not
 abbrev pub LooksAlike : Type 0

@@ -16,18 +16,21 @@ ghost use Rattle.cr_undeduced.specs.Undeducible.{OthersLegal, ShorterLegal, Look
 /// Of what nobody of a group was shown whenever they looked, they can rule out no value, though they tell each other
 /// all that they saw (nondeducibility: Sutherland, 1986). Take a legal history, any looks at it, each of a user or of
 /// an unauthenticated caller after so many entries, and for each of its places any other digest, title, abstract,
-/// content, bid, kind of seat, form, comment, response, tag, switch of a tag and decision. The other history has these
-/// wherever the bounds give none of those who looked the part, all at once, part by part: it is legal, and at each of
-/// the looks the same is seen of it. A tag stays, too, where the other isn't for the same, who are the committee,
-/// chairs, or whoever sets it. What a part is shown for is said in the words of the bounds (`ShownTo`), so a
-/// trigger table that shows more is refused. One thing stays though nobody is shown it: where somebody looked at the
-/// notification or later, the last decision on each paper that there was then, since whether it is accepted everyone
-/// is shown.
+/// content, bid, kind of seat, form, comment, response, tag, switch of a tag and decision, and any other moment, number
+/// and mark. The other history has these wherever the bounds give none of those who looked the part, all at once, part
+/// by part: it is legal, and at each of the looks the same is seen of it. What a part is shown for is said in the words
+/// of the bounds (`ShownTo`), so a trigger table that shows more is refused.
 ///
-/// The clause `legal` asks that the other values be within the bounds of commands, and that nobody have uploaded more
-/// than 64 MiB by them; `shorter` asks the former, and that no content be longer than the one whose place it takes.
-/// `looks` holds of every history, legal or not. `group` is that of a group who look at the end: each sees the same
-/// view. The conditions of the other values are of these alone, never of what is hidden.
+/// A command's entries have one moment, number and mark, and keep them where somebody who looked made them. A tag stays
+/// where the other isn't for the same, who are the committee, chairs, or whoever sets it. One thing stays though nobody
+/// is shown it: where somebody looked at the notification or later, the last decision on each paper that there was
+/// then, since whether it is accepted everyone is shown.
+///
+/// The clause `legal` asks that the other values be within the bounds of commands, that each moment be as late for what
+/// the phase opens as the one whose place it takes, that no user have a number twice, nor a registration one
+/// (`StampsFit`), and that nobody have uploaded more than 64 MiB by them; `shorter` asks all but the last, and that no
+/// content be longer than the one whose place it takes. `looks` holds of every history, legal or not. `group` is that
+/// of a group who look at the end: each sees the same view.
 pub fn law_undeducible()
     ensures legal { OthersLegal }
     ensures shorter { ShorterLegal }
