@@ -9,9 +9,11 @@
 A sentence has at most 30 words; what stands in code, in headings and in tables' heads isn't counted, and a cell of a
 table is a text of its own. The words of BANNED have a plainer one, which is told. A block or a row that cites a theorem
 (`law_..`) as a claim says that it is Proved, Tested or Assumed. Prints a line for each thing that isn't so, and last
-how many sentences were read; ends with status 0 where none is wrong. Python 3 alone is needed.
+how many sentences were read; ends with status 0 where none is wrong. The descriptions of docs/openapi.json are tried
+too. Python 3 alone is needed.
 """
 
+import json
 import re
 import subprocess
 import sys
@@ -69,6 +71,13 @@ def wrong_in(name, text):
     return counts, in_tables, wrong
 
 
+def described(text):
+    """The descriptions of openapi.json, as items of a list in their lines; the other lines are empty."""
+    said = re.compile(r'"(?:description|summary)": ("(?:[^"\\]|\\.)*")')
+    lines = [". ".join(json.loads(found) for found in said.findall(line)) for line in text.split("\n")]
+    return "\n".join(line and f"- {line}" for line in lines)
+
+
 def pages_of(commit):
     """The pages of a commit, by their names, with their texts."""
     git = lambda *words: subprocess.run(["git", *words], cwd=TOP, capture_output=True, check=True).stdout.decode()
@@ -102,6 +111,8 @@ def main():
         counts, in_tables, more = wrong_in(page.relative_to(TOP).as_posix(), page.read_text())
         read += len(counts) + len(in_tables)
         wrong += more
+    if not named:
+        wrong += wrong_in("docs/openapi.json", described((TOP / "docs/openapi.json").read_text()))[2]
     print("\n".join([*wrong, f"{len(pages)} pages, {read} sentences, {len(wrong)} wrong"]))
     return 1 if wrong else 0
 
