@@ -137,7 +137,7 @@ def render(
         *_section(_CONFIDENCE, [f"{grades}: how sure you are."], str(review.confidence) if review else ""),
         *_section(_TO_AUTHORS, ["The authors and the committee read this.", bound],
                   review.to_authors if review else ""),
-        *_section(_TO_COMMITTEE, ["The committee alone reads this.", bound], review.to_pc if review else ""),
+        *_section(_TO_COMMITTEE, ["Only the committee reads this.", bound], review.to_pc if review else ""),
         "",
         _END,
     ]
@@ -222,7 +222,7 @@ def _sections(text: str) -> dict[str, _Section]:
         elif here is not None:
             here.append((number, line))
         elif line.strip():
-            problems.append(Problem(number, "stray_text", "this stands below no heading"))
+            problems.append(Problem(number, "stray_text", "this is under no heading"))
     if not begun and not found:
         _fail(1, "no_form", f"a form begins with the line {_TITLE}")
     for heading in _HEADINGS:

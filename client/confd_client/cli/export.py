@@ -16,7 +16,7 @@ from confd_client.cli.status import count_of
 @click.argument("folder", metavar="OUT", type=click.Path(path_type=Path))
 @pass_app
 def command(app: App, folder: Path) -> None:
-    """Writes all that you are shown into the new folder OUT, readable by you alone.
+    """Writes all that you are shown into the new folder OUT, readable only by you.
 
     conference.json has everything; csv has tables for a spreadsheet, where a text that begins like a formula has an
     apostrophe in front; contents has the papers; overview.html is a page with tables that sort and plots of scores,

@@ -37,8 +37,8 @@ class Fetched:
 def command(app: App, papers: tuple[int, ...], every: bool, version: int | None, folder: Path) -> None:
     """Fetches the contents of papers: those named, or all that are yours to review.
 
-    Paper 7 in version 2 becomes paper-7-v2.pdf, or .bin where it isn't PDF, readable by you alone. A file that is there
-    with other bytes is left as it is.
+    Paper 7 in version 2 becomes paper-7-v2.pdf, or .bin where it isn't PDF, readable only by you. A file that is there
+    with other bytes is left unchanged.
 
     \b
     Examples:

@@ -13,10 +13,10 @@ from confd_client.cli.app import App, Command, pass_app
 @click.argument("mode", type=click.Choice([mode.value for mode in Mode]))
 @pass_app
 def command(app: App, mode: str) -> None:
-    """Sets who sees the names of authors and reviewers, in setup alone.
+    """Sets who sees the names of authors and reviewers; only in setup.
 
-    open: both sides see the other's; blind: authors don't see who reviews them; anonymous: nor do members, but for
-    chairs, see who wrote either.
+    open: both sides see the other's; blind: authors don't see who reviews them; anonymous: of the
+    committee only chairs see the names of authors and reviewers.
 
     \b
     Example:

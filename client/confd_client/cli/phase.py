@@ -20,7 +20,7 @@ from confd_client.survey import Status, take_status
 def command(app: App, following: str | None, is_sure: bool) -> None:
     """Tells the phase, or moves the conference on to the phase NEXT, for good.
 
-    It says first what would be left behind: missing reviews, undecided papers, members who haven't bid; and asks.
+    It first says what would be left undone: missing reviews, undecided papers, members who haven't bid. Then it asks.
 
     \b
     Examples:

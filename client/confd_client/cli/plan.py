@@ -1,5 +1,5 @@
 # SPDX-License-Identifier: Apache-2.0 OR MIT
-"""`confd-client plan`: whom to assign, so that the bids are met best."""
+"""`confd-client plan`: further assignments that meet the bids best."""
 
 from __future__ import annotations
 
@@ -52,11 +52,11 @@ def papers_chosen(_: click.Context, __: click.Parameter, text: str | None) -> li
 @pass_app
 def command(app: App, per_paper: int, load: int, count_assigned: bool, leave_out: Sequence[str],
             papers: list[int] | None, query: str | None, own: bool, output: Path) -> None:
-    """Plans whom to assign, so that the bids of those who are assigned have the greatest sum.
+    """Plans further assignments, so that the bids of the members assigned have the greatest sum.
 
     Nobody gets a paper that they review already or are in conflict with; papers with which you are in conflict, and
-    withdrawn ones, are left out. The plan is the server's, or is made here where the server can't: past its size, or
-    with any of the options but --per-paper, --load and --output. Both have the same sum.
+    withdrawn ones, are left out. The plan is the server's. It is made here if the server can't: past its size, or with
+    any option except --per-paper, --load and --output. Both have the same sum.
 
     \b
     Examples:

@@ -16,10 +16,10 @@ from confd_client.errors import Refusal
 @click.argument("name")
 @pass_app
 def command(app: App, name: str) -> None:
-    """Makes an account by the name NAME. Who registers first is a chair.
+    """Makes an account by the name NAME. The first user to register becomes a chair.
 
-    The secret is that of --secret-file (else ~/.config/confd/secret), or of CONFD_SECRET. Where there is no such file,
-    a secret is made up and written there, for you alone: keep it, since nobody can give you another.
+    The secret is that of --secret-file (else ~/.config/confd/secret), or of CONFD_SECRET. If there is no such file, a
+    secret is made up and written there, readable only by you: keep it, since nobody can give you another.
 
     \b
     Example:

@@ -13,9 +13,9 @@ from confd_client.cli.app import App, Command, pass_app
 @click.option("--count", "count_only", is_flag=True, help="Tell only how many there are.")
 @pass_app
 def command(app: App, query: str, count_only: bool) -> None:
-    """Finds the papers of which the search QUERY holds, among those of which you are told.
+    """Finds papers by the search QUERY, among those whose title you are told.
 
-    A word stands in a title or an abstract; ti:, ab:, au: and re: look into titles, abstracts, names of authors and of
+    A word is found in titles and abstracts; ti:, ab:, au: and re: look into titles, abstracts, names of authors and of
     reviewers; #tag, dec:accept, status:withdrawn and has:review are further terms; AND, OR, NOT and parentheses bind
     them.
 

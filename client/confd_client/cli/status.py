@@ -1,5 +1,5 @@
 # SPDX-License-Identifier: Apache-2.0 OR MIT
-"""`confd-client status`: how the conference stands."""
+"""`confd-client status`: the state of the conference."""
 
 from __future__ import annotations
 
@@ -18,10 +18,10 @@ from confd_client.survey import Status, take_status
 @click.option("--all", "show_all", is_flag=True, help="List each paper and member, also where nothing is missing.")
 @pass_app
 def command(app: App, show_all: bool) -> None:
-    """Shows how the conference stands: which reviews are missing, which papers are undecided, who hasn't bid.
+    """Shows the state of the conference: which reviews are missing, which papers are undecided, who hasn't bid.
 
     For chairs; before the bidding for everyone. It reads the page of each paper, and shows papers with which you are
-    in conflict by their numbers alone.
+    in conflict only by their numbers.
 
     \b
     Examples:
