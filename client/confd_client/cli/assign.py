@@ -18,11 +18,11 @@ def command(app: App, file: Path) -> None:
     """Assigns reviewers, declares conflicts and sets tags from FILE, which has the columns paper, action, user and tag.
 
     The actions are primary, secondary, pcreview, clearreview, conflict, clearconflict, tag and cleartag. The rows go in
-    pieces of at most 512; of each piece all are done or none. A paper's reviewers are assigned in an order by chance,
-    since the order of their labels could tell who they are.
+    pieces of at most 512; of each piece all are done or none. A paper's reviewers are assigned in a random order, since
+    the order of their labels could tell who they are.
 
-    Where it is broken off, call it again with the same file: what was done isn't done twice. What is left to do is kept
-    in FILE.sent meanwhile. Where a row is refused, the rows that weren't done are written to FILE.rest.
+    If it is interrupted, call it again with the same file: nothing is done twice. What is left to do is kept in
+    FILE.sent meanwhile. If a row is refused, the rows that weren't done are written to FILE.rest.
 
     \b
     Examples:

@@ -16,10 +16,10 @@ from confd_client.tables import read_table
 @click.argument("file", type=click.Path(path_type=Path))
 @pass_app
 def command(app: App, file: Path) -> None:
-    """Names the committee from FILE, which has the columns name and role: member, chair, or account to dismiss.
+    """Appoints the committee from FILE, which has the columns name and role: member, chair, or account to dismiss.
 
-    Everyone in it has to be registered. Who has the role already is left as they are, and so is who isn't in the file;
-    so the file may be sent again. Before anything is sent, the whole file is looked at.
+    Each user in it has to have an account. A user who has the role already keeps it, and a user who isn't in the file
+    isn't changed; so the file may be sent again. The whole file is checked before anything is sent.
 
     \b
     Example:

@@ -24,8 +24,8 @@ YES, NO = ("", "on", "yes", "true", "1"), ("off", "no", "false", "0")
 def command(app: App, file: Path) -> None:
     """Declares conflicts from FILE, which has the columns paper and user, and, to end some, a column on (yes or no).
 
-    Authors declare members for their papers before the bidding; from then on members declare their own, and chairs
-    anybody's: theirs go in pieces of at most 512 rows, as `assign` sends them.
+    Authors declare members for their papers before the bidding. From then on members declare their own, and chairs
+    those of others, in pieces of at most 512 rows, as `assign` sends them.
 
     \b
     Example:

@@ -19,8 +19,8 @@ from confd_client.tables import read_table
 def command(app: App, file: Path) -> None:
     """Decides on papers from FILE, which has the columns paper and decision: accept or reject.
 
-    Papers that are so decided already are left as they are, so the file may be sent again. Where one is refused, the
-    others are still decided on.
+    Papers that have the decision already are left unchanged, so the file may be sent again. If one is refused, the
+    others are still decided.
 
     \b
     Example:

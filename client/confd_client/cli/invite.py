@@ -17,10 +17,10 @@ from confd_client.tables import read_table
 @click.argument("file", type=click.Path(path_type=Path))
 @pass_app
 def command(app: App, file: Path) -> None:
-    """Invites those who aren't on the committee to papers, from FILE, which has the columns paper and user.
+    """Invites users who aren't on the committee to papers, from FILE, which has the columns paper and user.
 
-    Who is invited reads the paper, and may be assigned to it as members are. Who is invited already stays so, and one
-    that is refused keeps no other from it. For chairs.
+    They read the paper, and may be assigned to it as members are. A user who is invited already stays so, and a row
+    that is refused stops no other. For chairs.
 
     \b
     Example:
