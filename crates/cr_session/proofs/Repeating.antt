@@ -1,5 +1,5 @@
--- A number that was accepted keeps its group: no later command of its maker's is accepted with it. So what a repeat
--- is told stays what the first was.
+-- A number that was accepted keeps its group, as one does with which the history opened: no later command of its
+-- maker's is accepted with it. So what a repeat is told stays what the first was.
 use Rattle.std.proofs.Common.{ℕ, Bool, true, false, ◌≡◌, ◌&&◌, List, [], ◌∷◌, ◌++◌, length, refl, sym, ap, subst, ◌∙◌}
 use Rattle.std.proofs.Common.{Option, Some, None, Ok}
 use Rattle.std.specs.Prelude.{map}
@@ -194,17 +194,26 @@ first-under key stamp [] has some = absurd (true≢false some)
 first-under key stamp (e ∷ []) has some = has
 first-under key stamp (e ∷ next ∷ es) has some = has
 
+-- what an opening history keeps under a number a later one keeps under it
+abbrev pub KeepsOn : History → History → Type 0
+KeepsOn opening H =
+    (user number : ℕ) (e : Stamped) (es : History) → kept_under user number opening ≡ e ∷ es
+    → kept_under user number H ≡ e ∷ es
+
 module _ (H : History) (w : Wish) (d : Drawn) (adds : WishAdds H w (caller H w) d) where
-  -- what is kept of an act stays, since nothing is added under its number
-  under-stays : (act : Act) (key : RetryKey) (was : IsKept H act key) → (b : Bool)
-      → is_under was.user key.number adds.stamp ≡ b
-      → kept_under was.user key.number (H ++ d.group) ≡ kept_under was.user key.number H
-  under-stays act key was true is =
-      absurd (not_both key act.drawn.group was.first
-      (sym (new-unused H was.user key.number adds.stamp.maker adds.stamp.key adds.new is) ∙ was.under))
-  under-stays act key was false is =
-      ap (λ (g : History). kept_under was.user key.number (H ++ g)) adds.group_is
-      ∙ kept-other H was.user key.number adds.stamp adds.entries is
+  -- what is kept under a number stays, since nothing is added under it
+  under-stays : (user number : ℕ) (group : History) → kept_under user number H ≡ group → ([] ≡ group → ⊥) → (b : Bool)
+      → is_under user number adds.stamp ≡ b → kept_under user number (H ++ d.group) ≡ group
+  under-stays user number group was some true is =
+      absurd (some (sym (new-unused H user number adds.stamp.maker adds.stamp.key adds.new is) ∙ was))
+  under-stays user number group was some false is =
+      ap (λ (g : History). kept_under user number (H ++ g)) adds.group_is
+      ∙ kept-other H user number adds.stamp adds.entries is ∙ was
+
+  pub keeps-on : (opening : History) → KeepsOn opening H → KeepsOn opening (H ++ d.group)
+  keeps-on opening keeps user number e es is =
+      under-stays user number (e ∷ es) (keeps user number e es is) (λ none. cc (none)) (is_under user number adds.stamp)
+      refl
 
   pub kept-stays : (act : Act) → IsKeptIf H act → IsKeptIf (H ++ d.group) act
   kept-stays act kept key is =
@@ -212,7 +221,8 @@ module _ (H : History) (w : Wish) (d : Drawn) (adds : WishAdds H w (caller H w) 
       record {
         user = was.user;
         caller_is = was.caller_is;
-        under = under-stays act key was (is_under was.user key.number adds.stamp) refl ∙ was.under;
+        under = under-stays was.user key.number act.drawn.group was.under (not_both key act.drawn.group was.first)
+            (is_under was.user key.number adds.stamp) refl;
         first = was.first;
         told = told-stays (is_bulk act.wish.what) H d.group act.drawn.group act.drawn.receipt was.told;
         accepts = was.accepts;

@@ -1,5 +1,5 @@
--- A wish that repeats an act adds nothing, and is told what the act's group tells. So without the repeats all ends
--- the same.
+-- A wish that repeats an act, or what the opening history keeps, adds nothing, and is told what the group of that tells.
+-- So without the repeats all ends the same.
 use Rattle.std.proofs.Common.{ℕ, Bool, true, false, cond, ◌≡◌, List, [], ◌∷◌, ◌++◌, length, eqb, refl, sym, ap, subst}
 use Rattle.std.proofs.Common.{◌∙◌, append-nil, Option, Some, None}
 use Rattle.std.specs.Prelude.{IfSome, find, is_none, not}
@@ -36,13 +36,15 @@ use Rattle.cr_wire.specs.declared.what.What.{What}
 use Rattle.cr_wire.specs.declared.what.What.TheVariants as whats
 use Rattle.cr_wire.specs.declared.what.Wish.{Wish}
 use Rattle.cr_wire.specs.Caller.{caller}
-use Rattle.cr_session.specs.Retries.{Act, act_drawn, acts_of, key_of, is_bulk, is_same_key, is_repeat_of, repeated_by}
-use Rattle.cr_session.specs.Retries.{without_repeats, ends_in, IsToldAgain, AreToldAgain, AreBounded, RetriesActOnce}
+use Rattle.cr_session.specs.Retries.{Act, act_drawn, acts_of, key_of, is_bulk, is_same_key, is_repeat_of, of_mark}
+use Rattle.cr_session.specs.Retries.{added_under, Earlier, Opened, Acted, earlier_of, repeated_by, without_repeats}
+use Rattle.cr_session.specs.Retries.{ends_in, IsToldAgain, AreToldAgain, AreBounded, RetriesActOnce}
 use Rattle.cr_session.specs.Told.{sending_of, told, told_sent, as_bulk, reply_of, drawn, and_drawn, after_wish}
 use Rattle.cr_session.specs.Turning.{IsBoundedWish}
 use Rattle.cr_session.specs.TwoRuns.{WishInTurn, is_same}
 use Rattle.cr_session.proofs.Accepting.{Accepts, wish-draws, accepted-sent, settled-repeats}
-use Rattle.cr_session.proofs.Repeating.{WishAdds, wish-adds, IsTold, IsUnder, IsKept, IsKeptIf, kept-stays, kept-new}
+use Rattle.cr_session.proofs.Repeating.{WishAdds, wish-adds, IsTold, IsUnder, IsKept, IsKeptIf, KeepsOn, keeps-on}
+use Rattle.cr_session.proofs.Repeating.{kept-stays, kept-new}
 use Rattle.cr_session.proofs.TurnLaws.{MayWish, sent-by, drawn-by}
 use Rattle.cr_session.proofs.TwoRunsLaws.{same_user}
 
@@ -149,24 +151,28 @@ same-key (Some key) (Some key') is =
       mark = (bytes_eq-Decides key.mark key'.mark).0 parts.1;
     }
 
--- a wish that repeats an act which is kept
-record AgainIn (H : History) (w : WishInTurn) (act : Act) : Type 0 where
+-- a wish that repeats this
+record AgainIn (H : History) (w : WishInTurn) (earlier : Earlier) : Type 0 where
   stays : after_wish H w.wish ≡ H
-  told : IsToldAgain act H w
+  told : IsToldAgain earlier H w
 
-again : (H : History) (w : WishInTurn) (act : Act) → IsKeptIf H act → is_repeat_of H w.wish act ≡ true → AgainIn H w act
+-- an act that is kept
+again : (H : History) (w : WishInTurn) (act : Act) → IsKeptIf H act → is_repeat_of H w.wish act ≡ true
+    → AgainIn H w (Acted act)
 unfolding told
 again H w act kept_if is = record {
   stays = ap (and_drawn H) done.nothing;
-  told = record {
-    receipt = repeated_receipt (is_bulk w.wish.what) tells.call;
-    receipt_is = ap (option_map (repeated_receipt (is_bulk w.wish.what))) tells.call_is;
-    told_is = done.sent sending;
-    first = λ same. done.sent sending
+  told = (
+    record {
+      receipt = repeated_receipt (is_bulk w.wish.what) tells.call;
+      receipt_is = ap (option_map (repeated_receipt (is_bulk w.wish.what))) tells.call_is;
+      told_is = done.sent sending;
+    },
+    λ same. done.sent sending
         ∙ ap (λ (receipt : Receipt). reply_text (replies.Accepted receipt) sending)
         (ap (λ (b : Bool). repeated_receipt b tells.call) same ∙ tells.receipt_is)
-        ∙ sym (accepted-sent act.before act.wish (caller act.before act.wish) act.drawn sending kept.accepts);
-  };
+        ∙ sym (accepted-sent act.before act.wish (caller act.before act.wish) act.drawn sending kept.accepts),
+  );
 }
   where
     sending : Sending
@@ -198,6 +204,51 @@ again H w act kept_if is = record {
         (same_user (caller act.before act.wish) (caller H w.wish) parts.0 ∙ kept.caller_is)
         looked_up (tells.mark ∙ keys.mark) w.wish.what refl keys.other_is
 
+-- what the opening history keeps under its caller's number
+module _ (opening H : History) (keeps : KeepsOn opening H) (w : WishInTurn) where
+  opened : (user : ℕ) (key : RetryKey) (group kept : History) → caller H w.wish ≡ Some user
+      → key_of w.wish.what ≡ Some key → kept_under user key.number opening ≡ kept → of_mark key.mark kept ≡ Some group
+      → AgainIn H w (Opened group)
+  unfolding told
+  opened user key group [] calls has is marked = absurd (cc (marked))
+  opened user key group (e ∷ es) calls has is marked = by (bytes_eq (key_mark e.stamp.key) key.mark) refl marked
+    where
+      call : KeptCall
+      call = record {
+        mark = key_mark e.stamp.key;
+        receipt = receipt_of (name_told_by (accounts_of H) e.entry) e.entry;
+        entries = length (e ∷ es);
+      }
+
+      looked_up : kept_in_view (view (Some user) H) key.number ≡ Some call
+      looked_up =
+          kept_from_view (Some user) H key.number ∙ ap (kept_call (accounts_of H)) (keeps user key.number e es is)
+
+      by : (b : Bool) → bytes_eq (key_mark e.stamp.key) key.mark ≡ b → cond b (Some (e ∷ es)) None ≡ Some group
+          → AgainIn H w (Opened group)
+      by false same of = absurd (cc (of))
+      by true same of =
+          let done : Repeated H w.wish (repeated_receipt (is_bulk w.wish.what) call) =
+          repeat-told H w.wish user key call calls looked_up ((bytes_eq-Decides (key_mark e.stamp.key) key.mark).0 same)
+          w.wish.what refl has in
+          let group_is : e ∷ es ≡ group = cc (of) in
+          subst (λ (g : History). AgainIn H w (Opened g)) group_is
+          (record {
+            stays = ap (and_drawn H) done.nothing;
+            told = record {
+              receipt = repeated_receipt (is_bulk w.wish.what) call;
+              receipt_is = refl;
+              told_is = done.sent (sending_of w.wish w.closes);
+            };
+          })
+
+  again-opened : (u : Option ℕ) (k : Option RetryKey) (group : History) → caller H w.wish ≡ u
+      → key_of w.wish.what ≡ k → added_under u k opening ≡ Some group → AgainIn H w (Opened group)
+  again-opened None k group calls has is = absurd (cc (is))
+  again-opened (Some user) None group calls has is = absurd (cc (is))
+  again-opened (Some user) (Some key) group calls has is =
+      opened user key group (kept_under user key.number opening) calls has refl is
+
 -- ---- one wish after another
 
 -- what a search finds is there, and passes
@@ -212,74 +263,101 @@ found-there P test (y ∷ ys) x all is = by (test y) refl is (found-there P test
     by false passes is rest = rest is
 
 -- behind a wish the history is legal, and what was kept is, with what the wish did
-record Goes (acts : List Act) (H : History) (w : Wish) (o : Option Drawn) : Type 0 where
+record Goes (opening : History) (acts : List Act) (H : History) (w : Wish) (o : Option Drawn) : Type 0 where
   legal : Legal (and_drawn H o)
+  keeps : KeepsOn opening (and_drawn H o)
   kept : All (IsKeptIf (and_drawn H o)) (acts ++ act_drawn H w o)
 
-goes-on : (acts : List Act) (H : History) (w : Wish) → Legal H → All (IsKeptIf H) acts → IsBoundedWish w
-    → (o : Option Drawn) → drawn H w ≡ o
-    → Goes acts H w o
-goes-on acts H w legal kept bounded None is = record {
-  legal = legal;
-  kept = subst (λ (xs : List Act). All (IsKeptIf H) xs) (sym (append-nil acts)) kept;
-}
-goes-on acts H w legal kept bounded (Some d) is = record {
-  legal = adds.legal;
-  kept = All-append (IsKeptIf (H ++ d.group)) acts (act_drawn H w (Some d))
-      (All-weaker (IsKeptIf H) (IsKeptIf (H ++ d.group)) (kept-stays H w d adds) acts kept)
-      (by (is_nothing d.group) refl);
-}
-  where
-    accepts : Accepts H w (caller H w) d
-    accepts = wish-draws H w d is
+module _ (opening : History) where
+  goes-on : (acts : List Act) (H : History) (w : Wish) → Legal H → KeepsOn opening H → All (IsKeptIf H) acts
+      → IsBoundedWish w → (o : Option Drawn) → drawn H w ≡ o → Goes opening acts H w o
+  goes-on acts H w legal keeps kept bounded None is = record {
+    legal = legal;
+    keeps = keeps;
+    kept = subst (λ (xs : List Act). All (IsKeptIf H) xs) (sym (append-nil acts)) kept;
+  }
+  goes-on acts H w legal keeps kept bounded (Some d) is = record {
+    legal = adds.legal;
+    keeps = keeps-on H w d adds opening keeps;
+    kept = All-append (IsKeptIf (H ++ d.group)) acts (act_drawn H w (Some d))
+        (All-weaker (IsKeptIf H) (IsKeptIf (H ++ d.group)) (kept-stays H w d adds) acts kept)
+        (by (is_nothing d.group) refl);
+  }
+    where
+      accepts : Accepts H w (caller H w) d
+      accepts = wish-draws H w d is
 
-    adds : WishAdds H w (caller H w) d
-    adds = wish-adds H legal d w bounded (caller H w) accepts
+      adds : WishAdds H w (caller H w) d
+      adds = wish-adds H legal d w bounded (caller H w) accepts
 
-    act : Act
-    act = record { before = H; wish = w; drawn = d }
+      act : Act
+      act = record { before = H; wish = w; drawn = d }
 
-    by : (b : Bool) → is_nothing d.group ≡ b
-        → All (IsKeptIf (H ++ d.group)) (given (not b) (record { before = H; wish = w; drawn = d }))
-    by true none = All-nil (IsKeptIf (H ++ d.group))
-    by false some =
-        All-cons (IsKeptIf (H ++ d.group)) act [] (kept-new H w d adds accepts some) (All-nil (IsKeptIf (H ++ d.group)))
+      by : (b : Bool) → is_nothing d.group ≡ b
+          → All (IsKeptIf (H ++ d.group)) (given (not b) (record { before = H; wish = w; drawn = d }))
+      by true none = All-nil (IsKeptIf (H ++ d.group))
+      by false some =
+          All-cons (IsKeptIf (H ++ d.group)) act [] (kept-new H w d adds accepts some)
+          (All-nil (IsKeptIf (H ++ d.group)))
 
-record Once (acts : List Act) (H : History) (ws : List WishInTurn) : Type 0 where
-  ends : ends_in H (without_repeats acts H ws) ≡ ends_in H ws
-  told : AreToldAgain acts H ws
+  -- what a wish repeats
+  again-of : (acts : List Act) (H : History) (w : WishInTurn) → KeepsOn opening H → All (IsKeptIf H) acts
+      → (group : Option History) → added_under (caller H w.wish) (key_of w.wish.what) opening ≡ group
+      → (act : Option Act) → find (is_repeat_of H w.wish) acts ≡ act
+      → (earlier : Earlier) → earlier_of group act ≡ Some earlier → AgainIn H w earlier
+  again-of acts H w keeps kept (Some group) added act found earlier is =
+      let same : Opened group ≡ earlier = cc (is) in
+      subst (λ (x : Earlier). AgainIn H w x) same
+      (again-opened opening H keeps w (caller H w.wish) (key_of w.wish.what) group refl refl added)
+  again-of acts H w keeps kept None added None found earlier is = absurd (cc (is))
+  again-of acts H w keeps kept None added (Some act) found earlier is =
+      let same : Acted act ≡ earlier = cc (is) in
+      let there = found-there (IsKeptIf H) (is_repeat_of H w.wish) acts act kept found in
+      subst (λ (x : Earlier). AgainIn H w x) same (again H w act there.0 there.1)
 
--- the same of a wish before others, which repeats this act or none
-record OnceFor (acts : List Act) (H : History) (w : WishInTurn) (ws : List WishInTurn) (o : Option Act) : Type 0 where
-  ends : ends_in H (given (is_none o) w ++ without_repeats (acts ++ acts_of H w.wish) (after_wish H w.wish) ws)
-      ≡ ends_in (after_wish H w.wish) ws
-  told : IfSome o (λ (act : Act). IsToldAgain act H w)
-  told_behind : AreToldAgain (acts ++ acts_of H w.wish) (after_wish H w.wish) ws
+  record Once (acts : List Act) (H : History) (ws : List WishInTurn) : Type 0 where
+    ends : ends_in H (without_repeats opening acts H ws) ≡ ends_in H ws
+    told : AreToldAgain opening acts H ws
 
-acts-once_for : (acts : List Act) (H : History) (w : WishInTurn) (ws : List WishInTurn) → All (IsKeptIf H) acts
-    → Once (acts ++ acts_of H w.wish) (after_wish H w.wish) ws → (o : Option Act) → repeated_by acts H w.wish ≡ o
-    → OnceFor acts H w ws o
-acts-once_for acts H w ws kept rest None is = record { ends = rest.ends; told = tt; told_behind = rest.told }
-acts-once_for acts H w ws kept rest (Some act) is =
-    let found = found-there (IsKeptIf H) (is_repeat_of H w.wish) acts act kept is in
-    let told_so : AgainIn H w act = again H w act found.0 found.1 in
-    record {
-      ends = ap (λ (G : History). ends_in G (without_repeats (acts ++ acts_of H w.wish) (after_wish H w.wish) ws))
-          (sym told_so.stays) ∙ rest.ends;
-      told = told_so.told;
-      told_behind = rest.told;
-    }
+  -- the same of a wish before others, which repeats this or nothing
+  record OnceFor (acts : List Act) (H : History) (w : WishInTurn) (ws : List WishInTurn) (o : Option Earlier)
+      : Type 0 where
+    ends : ends_in H
+        (given (is_none o) w ++ without_repeats opening (acts ++ acts_of H w.wish) (after_wish H w.wish) ws)
+        ≡ ends_in (after_wish H w.wish) ws
+    told : IfSome o (λ (earlier : Earlier). IsToldAgain earlier H w)
+    told_behind : AreToldAgain opening (acts ++ acts_of H w.wish) (after_wish H w.wish) ws
 
-acts-once : (acts : List Act) (H : History) (ws : List WishInTurn) → Legal H → All (IsKeptIf H) acts → AreBounded ws
-    → Once acts H ws
-acts-once acts H [] legal kept bounded = record { ends = refl; told = tt }
-acts-once acts H (w ∷ ws) legal kept bounded =
-    let behind = goes-on acts H w.wish legal kept bounded.0 (drawn H w.wish) refl in
-    let rest = acts-once (acts ++ acts_of H w.wish) (after_wish H w.wish) ws behind.legal behind.kept bounded.1 in
-    let here = acts-once_for acts H w ws kept rest (repeated_by acts H w.wish) refl in
-    record { ends = here.ends; told = (here.told, here.told_behind) }
+  acts-once_for : (acts : List Act) (H : History) (w : WishInTurn) (ws : List WishInTurn) → KeepsOn opening H
+      → All (IsKeptIf H) acts → Once (acts ++ acts_of H w.wish) (after_wish H w.wish) ws
+      → (o : Option Earlier) → repeated_by opening acts H w.wish ≡ o → OnceFor acts H w ws o
+  acts-once_for acts H w ws keeps kept rest None is =
+      record { ends = rest.ends; told = tt; told_behind = rest.told }
+  acts-once_for acts H w ws keeps kept rest (Some earlier) is =
+      let told_so : AgainIn H w earlier =
+      again-of acts H w keeps kept (added_under (caller H w.wish) (key_of w.wish.what) opening) refl
+      (find (is_repeat_of H w.wish) acts) refl earlier is in
+      record {
+        ends = ap
+            (λ (G : History).
+            ends_in G (without_repeats opening (acts ++ acts_of H w.wish) (after_wish H w.wish) ws))
+            (sym told_so.stays) ∙ rest.ends;
+        told = told_so.told;
+        told_behind = rest.told;
+      }
+
+  acts-once : (acts : List Act) (H : History) (ws : List WishInTurn) → Legal H → KeepsOn opening H
+      → All (IsKeptIf H) acts → AreBounded ws → Once acts H ws
+  acts-once acts H [] legal keeps kept bounded = record { ends = refl; told = tt }
+  acts-once acts H (w ∷ ws) legal keeps kept bounded =
+      let behind = goes-on acts H w.wish legal keeps kept bounded.0 (drawn H w.wish) refl in
+      let rest = acts-once (acts ++ acts_of H w.wish) (after_wish H w.wish) ws behind.legal behind.keeps behind.kept
+      bounded.1 in
+      let here = acts-once_for acts H w ws keeps kept rest (repeated_by opening acts H w.wish) refl in
+      record { ends = here.ends; told = (here.told, here.told_behind) }
 
 pub retries_act_once : RetriesActOnce
 retries_act_once opening wishes legal bounded =
-    let all = acts-once [] opening wishes legal (All-nil (IsKeptIf opening)) bounded in
+    let all = acts-once opening [] opening wishes legal (λ user number e es is. is) (All-nil (IsKeptIf opening)) bounded
+    in
     record { ends = all.ends; told = all.told }

@@ -1,7 +1,8 @@
 -- RetriesActOnce: a command or a bulk that its caller sends again, with the number and the mark that it had, acts
--- once. What was sent again could as well be left out: the history ends the same, and it is answered as the first was.
-use Rattle.std.specs.Prelude.{◌≡◌, ◌==◌, ◌&&◌, not, List, [], ◌∷◌, ◌++◌, Bool, true, false}
-use Rattle.std.specs.Prelude.{Option, Some, None, is_none, IfSome, find}
+-- once, also where the history began with it. What was sent again could as well be left out: the history ends the same,
+-- and it is answered as the first was.
+use Rattle.std.specs.Prelude.{◌≡◌, ◌==◌, ◌&&◌, not, ℕ, List, [], ◌∷◌, ◌++◌, Bool, true, false}
+use Rattle.std.specs.Prelude.{Option, Some, None, is_none, IfSome, find, if◌then◌else◌}
 use Rattle.std.specs.List.{AllByRecursion}
 use Rattle.std.specs.Option.{option_map}
 use Rattle.std.specs.Str.{bytes_eq}
@@ -11,8 +12,10 @@ use Rattle.cr_base.specs.declared.retry.RetryKey.{RetryKey}
 use Rattle.cr_base.specs.Drawn.{Drawn}
 use Rattle.cr_base.specs.History.{History}
 use Rattle.cr_base.specs.HistoryFacts.{accounts_of}
+use Rattle.cr_base.specs.Keys.{kept_under}
 use Rattle.cr_base.specs.Lists.{given, is_nothing}
 use Rattle.cr_base.specs.Retries.{kept_call, repeated_receipt}
+use Rattle.cr_base.specs.Rows.{key_mark}
 use Rattle.cr_policy.specs.Legal.{Legal}
 use Rattle.cr_print.specs.Answers.{reply_text}
 use Rattle.cr_wire.specs.declared.what.What.{What}
@@ -68,18 +71,40 @@ abbrev pub is_repeat_of : History → Wish → Act → Bool
 is_repeat_of H w act =
     is_same (caller act.before act.wish) (caller H w) && is_same_key (key_of act.wish.what) (key_of w.what)
 
--- the act that it repeats, of these
-abbrev pub repeated_by : List Act → History → Wish → Option Act
-repeated_by acts H w = find (is_repeat_of H w) acts
+-- of what a history keeps under a number, what a command of this mark added
+abbrev pub of_mark : List ℕ → History → Option History
+of_mark mark [] = None
+of_mark mark (e ∷ es) = if bytes_eq (key_mark e.stamp.key) mark then Some (e ∷ es) else None
 
--- ---- wishes without those that repeat an act
+-- what a command or a bulk with this caller, number and mark added to a history; nobody's has no number
+abbrev pub added_under : Option ℕ → Option RetryKey → History → Option History
+added_under None key H = None
+added_under (Some user) None H = None
+added_under (Some user) (Some key) H = of_mark key.mark (kept_under user key.number H)
 
--- from this history on, where these acts came before
-abbrev pub without_repeats : List Act → History → List WishInTurn → List WishInTurn
-without_repeats acts H [] = []
-without_repeats acts H (w ∷ ws) =
-    given (is_none (repeated_by acts H w.wish)) w
-    ++ without_repeats (acts ++ acts_of H w.wish) (after_wish H w.wish) ws
+-- what a wish may repeat: a command or a bulk that the opening history has, of which that keeps what it added; or an
+-- act of the wishes before
+pub data Earlier : Type 0 where
+  Opened : History → Earlier
+  Acted : Act → Earlier
+
+abbrev pub earlier_of : Option History → Option Act → Option Earlier
+earlier_of (Some group) act = Some (Opened group)
+earlier_of None act = option_map Acted act
+
+-- what it repeats, where all began with this opening history, and these acts came before
+abbrev pub repeated_by : History → List Act → History → Wish → Option Earlier
+repeated_by opening acts H w =
+    earlier_of (added_under (caller H w) (key_of w.what) opening) (find (is_repeat_of H w) acts)
+
+-- ---- wishes without those that repeat something
+
+-- from this history on, where all began with the opening one, and these acts came before
+abbrev pub without_repeats : History → List Act → History → List WishInTurn → List WishInTurn
+without_repeats opening acts H [] = []
+without_repeats opening acts H (w ∷ ws) =
+    given (is_none (repeated_by opening acts H w.wish)) w
+    ++ without_repeats opening (acts ++ acts_of H w.wish) (after_wish H w.wish) ws
 
 -- the history in which wishes end
 abbrev pub ends_in : History → List WishInTurn → History
@@ -93,21 +118,29 @@ ends_in H (w ∷ ws) = ends_in (after_wish H w.wish) ws
 abbrev pub receipt_again : Bool → History → History → Option Receipt
 receipt_again bulk H group = option_map (repeated_receipt bulk) (kept_call (accounts_of H) group)
 
--- A wish that repeats an act is told `receipt_again` on what it is and on the act's group. Where both are bulks, or
--- neither is, these are the bytes that the act was told, but for the date and for whether the connection closes.
-pub record IsToldAgain (act : Act) (H : History) (w : WishInTurn) : Type 0 where
+-- a wish is told `receipt_again` on what it is and on this group
+pub record TellsGroup (group H : History) (w : WishInTurn) : Type 0 where
   pub receipt : Receipt
-  pub receipt_is : receipt_again (is_bulk w.wish.what) H act.drawn.group ≡ Some receipt
+  pub receipt_is : receipt_again (is_bulk w.wish.what) H group ≡ Some receipt
   pub told_is : told H w.wish w.closes ≡ reply_text (replies.Accepted receipt) (sending_of w.wish w.closes)
-  pub first : is_bulk w.wish.what ≡ is_bulk act.wish.what
-      → told H w.wish w.closes ≡ told_sent act.before act.wish (sending_of w.wish w.closes)
 
--- so is each wish from this history on that repeats an act, where these acts came before
-abbrev pub AreToldAgain : List Act → History → List WishInTurn → Type 0
-AreToldAgain acts H [] = Unit {0}
-AreToldAgain acts H (w ∷ ws) =
-    IfSome (repeated_by acts H w.wish) (λ act. IsToldAgain act H w)
-    × AreToldAgain (acts ++ acts_of H w.wish) (after_wish H w.wish) ws
+-- A wish that repeats something is told so on the group which that added. Where it repeats an act of these wishes, and
+-- both are bulks, or neither is, these are the bytes that the act was told, but for the date and for whether the
+-- connection closes.
+abbrev pub IsToldAgain : Earlier → History → WishInTurn → Type 0
+IsToldAgain (Opened group) H w = TellsGroup group H w
+IsToldAgain (Acted act) H w =
+    TellsGroup act.drawn.group H w
+    × (is_bulk w.wish.what ≡ is_bulk act.wish.what
+    → told H w.wish w.closes ≡ told_sent act.before act.wish (sending_of w.wish w.closes))
+
+-- so is each wish from this history on that repeats something, where all began with the opening one, and these acts
+-- came before
+abbrev pub AreToldAgain : History → List Act → History → List WishInTurn → Type 0
+AreToldAgain opening acts H [] = Unit {0}
+AreToldAgain opening acts H (w ∷ ws) =
+    IfSome (repeated_by opening acts H w.wish) (λ earlier. IsToldAgain earlier H w)
+    × AreToldAgain opening (acts ++ acts_of H w.wish) (after_wish H w.wish) ws
 
 -- ---- the law
 
@@ -115,10 +148,10 @@ AreToldAgain acts H (w ∷ ws) =
 abbrev pub AreBounded : List WishInTurn → Type 0
 AreBounded wishes = AllByRecursion (λ (w : WishInTurn). IsBoundedWish w.wish) wishes
 
--- without the wishes that repeat an act it ends the same, and these are told so
+-- without the wishes that repeat something it ends the same, and these are told so
 pub record ActsOnce (opening : History) (wishes : List WishInTurn) : Type 0 where
-  pub ends : ends_in opening (without_repeats [] opening wishes) ≡ ends_in opening wishes
-  pub told : AreToldAgain [] opening wishes
+  pub ends : ends_in opening (without_repeats opening [] opening wishes) ≡ ends_in opening wishes
+  pub told : AreToldAgain opening [] opening wishes
 
 -- RetriesActOnce: on every legal history, whoever asks whatever, where nothing that Judge accepts is lost
 abbrev pub RetriesActOnce : Type 0

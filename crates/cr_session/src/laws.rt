@@ -19,11 +19,12 @@ pub fn law_two_runs()
 
 /// A command or a bulk that its caller sends again, with the number and the mark that it had, acts once. On every
 /// legal history, whoever asks whatever: where each wish is left out whose caller, number and mark an earlier one has
-/// that was accepted and added something, all ends in the same history. A wish so left out is answered by what the
-/// earlier one added: a bulk by how many entries, every other command by the first of them. Where both are bulks, or
-/// neither is, these are the bytes of the earlier one's answer, its Date and its Connection aside. It is so whatever
-/// comes between, also where the caller has lost the right meanwhile. Nothing that is accepted is lost in it. Earlier
-/// are the wishes of the list: a repeat of a command that the history began with is answered as `decide` says.
+/// that was accepted and added something, all ends in the same history. Earlier are the wishes of the list and all that
+/// the history began with, so it is the same behind a restart. A wish so left out is answered by what the earlier one
+/// added: a bulk by how many entries, every other command by the first of them. Where the earlier one is a wish of the
+/// list too, and both are bulks, or neither is, these are the bytes of its answer, its Date and its Connection aside. It
+/// is so whatever comes between, also where the caller has lost the right meanwhile. Nothing that is accepted is lost in
+/// it.
 pub fn law_repeats()
     ensures { RetriesActOnce }
 {}
