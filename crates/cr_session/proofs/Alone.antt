@@ -1,6 +1,6 @@
 -- Where one pass took all the turns of its lock, no other turn came between two of them: so its turns are Replay.
 use Rattle.std.proofs.Common.{◌≡◌, ◌∙◌, ◌≤◌, ◌<◌, ◌^◌, ◌-◌, ◌⊎◌, inl, inr, ℕ, zero, suc, ◌+◌, List, [], ◌∷◌, ◌++◌}
-use Rattle.std.proofs.Common.{length, drop, Bool, true, false, cond, refl, Option, Some, None, IfSome, sym, ap, subst}
+use Rattle.std.proofs.Common.{length, drop, Bool, true, false, cond, refl, Option, Some, IfSome, sym, ap, subst}
 use Rattle.std.proofs.Common.{arith, append-nil, append_assoc, length-append}
 use mathlib.Core.List.{IsPrefix}
 use Rattle.cr_base.specs.declared.entry.Stamped.{Stamped}
@@ -13,7 +13,7 @@ use Rattle.cr_lock.specs.Turns.{turn_at, groups_of, rises, marks}
 use Rattle.cr_lock.proofs.Prefixes.{prefix_self, prefix_length, prefix_drop, prefix_whole}
 use Rattle.cr_session.specs.Replay.{JudgedWish, Ledger, Turned, CountsLoss, history_after, Replays, lost_count}
 use Rattle.cr_book.specs.Seen.{SeenBook}
-use Rattle.cr_session.specs.Tries.{Tries, TriesWish, TriesAlong}
+use Rattle.cr_session.specs.Tries.{Tries, Nothing, TriesWish, TriesAlong}
 use Rattle.cr_session.specs.Passing.{KnownPass, TakesTurn, TakesTurns}
 use Rattle.cr_session.specs.Turning.{TurnsInVain}
 use Rattle.cr_wire.specs.declared.what.Wish.{Wish}
@@ -205,11 +205,11 @@ module _ {K : Type 0} (tries : Tries K) where
   -- and so is one in which memory ran out
   pub tries-vain : (w : Wish) (p q : KnownPass K) (x : SeenBook K) → p.share ≡ 64 → p.left ≡ Some x
       → (v : TurnsInVain tries w p q)
-      → (y : SeenBook K) × (q.left ≡ Some y) × tries true v.seen None x.keeper y.keeper
+      → (y : SeenBook K) × (q.left ≡ Some y) × tries v.seen Nothing x.keeper y.keeper
   tries-vain w p q x share left v = (
     v.leaves,
     ap (λ (k : KnownPass K). k.left) v.turn,
-    subst (λ (b : SeenBook K). tries true v.seen None b.keeper v.leaves.keeper)
+    subst (λ (b : SeenBook K). tries v.seen Nothing b.keeper v.leaves.keeper)
         (found-left p x v.found share left v.as_left) v.tried,
   )
 

@@ -1,5 +1,5 @@
 -- From what one turn did to what one request did.
-use Rattle.std.proofs.Common.{◌≡◌, ◌∙◌, ℕ, List, [], Bool, true, false, None, refl, sym, ap, subst, ◌∷◌}
+use Rattle.std.proofs.Common.{◌≡◌, ◌∙◌, ℕ, List, [], Bool, true, false, refl, sym, ap, subst, ◌∷◌}
 use mathlib.Core.List.{IsPrefix}
 use Rattle.cr_base.specs.History.{History}
 use Rattle.cr_book.specs.Seen.{SeenBook}
@@ -11,7 +11,7 @@ use Rattle.cr_session.specs.declared.serve.RequestOutcome.{RequestOutcome}
 use Rattle.cr_session.specs.declared.serve.RequestOutcome.TheVariants as served
 use Rattle.cr_session.specs.Told.{sending_of, told, unkept, drawn, after_wish}
 use Rattle.cr_session.specs.Replay.{JudgedWish, Ledger, Turned, answer_to, history_after}
-use Rattle.cr_session.specs.Tries.{Tries}
+use Rattle.cr_session.specs.Tries.{Tries, Nothing, fate_of, kept_of}
 use Rattle.cr_session.specs.Passing.{KnownPass}
 use Rattle.cr_wire.specs.Wishes.{closes}
 use Rattle.cr_ports.specs.Writing.{Outlet, WritesAnswers, AnswerBreaksOff}
@@ -58,7 +58,7 @@ module _ {K : Type 0} (tries : Tries K) (w : Wish) (b b' : Ledger) (found leaves
 
   -- what is so of the ledger is so of the pass
   abbrev in_turn : (lost : Bool) → Turned (judged_so lost) b b'
-      → tries lost b.history (drawn b.history w) found.keeper leaves.keeper
+      → tries b.history (fate_of lost (drawn b.history w)) found.keeper leaves.keeper
       → JudgesInTurn tries w p p'
   in_turn lost t did = record {
     judged = judged_so lost;
@@ -78,7 +78,7 @@ module _ {K : Type 0} (tries : Tries K) (w : Wish) (b b' : Ledger) (found leaves
   }
 
   kept-judged : (turn : TurnResult) (n : ℕ) → AnswersWish turn w b b'
-      → tries false b.history (drawn b.history w) found.keeper leaves.keeper → WasJudged turn n
+      → tries b.history (kept_of (drawn b.history w)) found.keeper leaves.keeper → WasJudged turn n
   kept-judged turn n a did = record {
     judges =
         in_turn false (record {
@@ -134,7 +134,7 @@ module _ {K : Type 0} (tries : Tries K) (w : Wish) (b b' : Ledger) (found leaves
       by served.OutOfMemory x = absurd x
 
   -- memory ran out in the turn
-  vain : (b' ≡ b) → MayWantMemory b.history w → tries true b.history None found.keeper leaves.keeper
+  vain : (b' ≡ b) → MayWantMemory b.history w → tries b.history Nothing found.keeper leaves.keeper
       → TurnsInVain tries w p p'
   vain same wants did = record {
     seen = b.history;

@@ -11,7 +11,7 @@ use Rattle.cr_ports.specs.Stopping.{IsAmong, LeavesOnly, OpensTo}
 use Rattle.cr_book.specs.Stopping.{Adding}
 use Rattle.cr_session.specs.Told.{drawn, and_drawn}
 use Rattle.cr_session.specs.Replay.{JudgedWish, Ledger, Replays, history_after}
-use Rattle.cr_session.specs.Tries.{Tries, TriesAlong, TriesWish, tries_of}
+use Rattle.cr_session.specs.Tries.{Tries, TriesAlong, TriesWish, fate_of, tries_of}
 use Rattle.cr_session.specs.Stopping.{IsLostGroup, KeepsWishes, OpensBehind, history_behind}
 
 -- ---- the history after a turn
@@ -234,7 +234,7 @@ module _ {K : Type 0} (tells : Bool) (rows : K → Option (List Row)) (tried : K
 
     -- by whether it was lost, and by what it draws
     kept-wish : (j : JudgedWish) (lost : Bool) (d : Option Drawn) → IsTrue tells → j.lost ≡ lost → j.seen ≡ H
-        → drawn H j.wish ≡ d → tries lost H d k k'
+        → drawn H j.wish ≡ d → tries H (fate_of lost d) k k'
         → KeptBehind (done ++ j ∷ []) (history_after j) k'
     kept-wish j lost None told is seen draws did =
         kept-nothing j (history_after j) refl
@@ -252,7 +252,7 @@ module _ {K : Type 0} (tells : Bool) (rows : K → Option (List Row)) (tried : K
       → TriesWish tries j k k' → KeptBehind (done ++ j ∷ []) (history_after j) k'
   kept-judged done H k k' told kept j seen did =
       kept-wish done H k k' kept j j.lost (drawn H j.wish) told refl seen refl
-      (subst (λ (h : History). tries j.lost h (drawn h j.wish) k k') seen did)
+      (subst (λ (h : History). tries h (fate_of j.lost (drawn h j.wish)) k k') seen did)
 
   -- and all of them
   pub kept-along : (js done : List JudgedWish) (b b' : Ledger) (k k' : K) → IsTrue tells → KeptBehind done b.history k

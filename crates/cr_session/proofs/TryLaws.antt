@@ -12,7 +12,7 @@ use Rattle.cr_book.specs.Stopping.{Adding}
 use Rattle.cr_book.proofs.StopLaws.{kept_adding, refused_adding}
 use Rattle.cr_session.specs.declared.turn.TurnResult.{TurnResult}
 use Rattle.cr_session.specs.declared.turn.TurnResult.TheVariants as turns
-use Rattle.cr_session.specs.Tries.{Tries, tries_of}
+use Rattle.cr_session.specs.Tries.{Tries, fate_of, kept_of, lost_of, tries_of}
 use Rattle.cr_session.specs.Turning.{TurnTries}
 
 -- ---- nothing was drawn
@@ -31,10 +31,10 @@ module _ {K : Type 0} (tells : Bool) (rows : K → Option (List Row)) (tried : K
   abbrev tries : Tries K
   tries = tries_of tells rows tried moment left_since opens
 
-  pub nothing-drawn : (unkept : Bool) (H : History) (d : Option Drawn) (k k' : K) → d ≡ None → k' ≡ k
-      → tries unkept H d k k'
-  nothing-drawn unkept H d k k' none same =
-      subst (λ (o : Option Drawn). tries unkept H o k k') (sym none) (λ told. same)
+  pub nothing-drawn : (lost : Bool) (H : History) (d : Option Drawn) (k k' : K) → d ≡ None → k' ≡ k
+      → tries H (fate_of lost d) k k'
+  nothing-drawn lost H d k k' none same =
+      subst (λ (o : Option Drawn). tries H (fate_of lost o) k k') (sym none) (λ told. same)
 
   -- whatever the turn came to
   pub tries-nothing : (turn : TurnResult) (H : History) (d : Option Drawn) (k k' : K) → d ≡ None → k' ≡ k
@@ -53,12 +53,13 @@ module _ {K : Type 0} (tells : Bool) (rows : K → Option (List Row)) (tried : K
     Adds d = IsTrue tells → (x : Drawn) → d ≡ Some x → Adding rows tried moment left_since opens result H x.group k k'
 
     pub tries-kept : (done : T) (d : Option Drawn) → result ≡ Ok done → (d ≡ None → k' ≡ k) → Adds d
-        → tries false H d k k'
+        → tries H (kept_of d) k k'
     tries-kept done None is still adds = λ told. still refl
     tries-kept done (Some x) is still adds =
         λ told. kept_adding rows tried moment left_since opens result done tt H x.group k k' is (adds told x refl)
 
-    pub tries-refused : (error : E) (d : Option Drawn) → result ≡ Err error → IsSome d → Adds d → tries true H d k k'
+    pub tries-refused : (error : E) (d : Option Drawn) → result ≡ Err error → IsSome d → Adds d
+        → tries H (lost_of d) k k'
     tries-refused error None is some adds = absurd (cc (some))
     tries-refused error (Some x) is some adds =
         λ told. refused_adding rows tried moment left_since opens result error tt H x.group k k' is (adds told x refl)

@@ -7,26 +7,45 @@ use Rattle.cr_book.specs.Stopping.{Adding}
 use Rattle.cr_session.specs.Told.{drawn}
 use Rattle.cr_session.specs.Replay.{JudgedWish}
 
--- Of a turn on a history: whether what its wish draws wasn't kept, the history, what the wish draws, and the keeper as
--- the turn found it and as it left it.
+-- what became of what a turn's wish draws: it draws nothing, and so nothing was put into the keeper; or the keeper kept
+-- it; or it was lost, since the keeper failed
+pub data Fate : Type 0 where
+  Nothing : Fate
+  Kept : Drawn → Fate
+  Lost : Drawn → Fate
+
+-- the fate of what a wish draws, which was lost or wasn't
+abbrev pub fate_of : Bool → Option Drawn → Fate
+fate_of lost None = Nothing
+fate_of true (Some d) = Lost d
+fate_of false (Some d) = Kept d
+
+abbrev pub kept_of : Option Drawn → Fate
+kept_of d = fate_of false d
+
+abbrev pub lost_of : Option Drawn → Fate
+lost_of d = fate_of true d
+
+-- Of a turn on a history: the history, the fate of what its wish draws, and the keeper as the turn found it and as it
+-- left it.
 abbrev pub Tries : Type 0 → Type 1
-Tries K = Bool → History → Option Drawn → K → K → Type 0
+Tries K = History → Fate → K → K → Type 0
 
 -- Where the keeper tells what a stop of the machine may leave: it is as it was where nothing is drawn. Else a stop
 -- while the group was being put behind the history leaves its rows, or these and then whole this group or one that had
 -- been tried.
 abbrev pub tries_of : {K : Type 0} → Bool → (K → Option (List Row)) → (K → List (List Row)) → (K → ℕ)
     → (K → ℕ → List ℕ → Type 0) → (List ℕ → List Row → Type 0) → Tries K
-tries_of tells rows tried moment left_since opens unkept H None old new = IsTrue tells → new ≡ old
-tries_of tells rows tried moment left_since opens true H (Some d) old new =
-    IsTrue tells → Adding rows tried moment left_since opens {T = ⊤} {E = ⊤} (Err tt) H d.group old new
-tries_of tells rows tried moment left_since opens false H (Some d) old new =
+tries_of tells rows tried moment left_since opens H Nothing old new = IsTrue tells → new ≡ old
+tries_of tells rows tried moment left_since opens H (Kept d) old new =
     IsTrue tells → Adding rows tried moment left_since opens {T = ⊤} {E = ⊤} (Ok tt) H d.group old new
+tries_of tells rows tried moment left_since opens H (Lost d) old new =
+    IsTrue tells → Adding rows tried moment left_since opens {T = ⊤} {E = ⊤} (Err tt) H d.group old new
 
 module _ {K : Type 0} (tries : Tries K) where
   -- a wish was judged over a keeper, which is this one then
   abbrev pub TriesWish : JudgedWish → K → K → Type 0
-  TriesWish j old new = tries j.lost j.seen (drawn j.seen j.wish) old new
+  TriesWish j old new = tries j.seen (fate_of j.lost (drawn j.seen j.wish)) old new
 
   -- these wishes were judged, each over the keeper as the wish before left it
   abbrev pub TriesAlong : List JudgedWish → K → K → Type 0

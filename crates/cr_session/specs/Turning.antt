@@ -34,7 +34,7 @@ use Rattle.cr_session.specs.declared.serve.RequestOutcome.TheVariants as served
 use Rattle.cr_session.specs.Told.{sending_of, told, is_unauthorized, drawn, after_wish}
 use Rattle.cr_lock.specs.Passes.{IsAsLeft, after_turn}
 use Rattle.cr_session.specs.Replay.{JudgedWish, Ledger, CountsLoss, answer_to, ledger_of}
-use Rattle.cr_session.specs.Tries.{Tries}
+use Rattle.cr_session.specs.Tries.{Tries, Nothing, kept_of, lost_of}
 use Rattle.cr_session.specs.Passing.{KnownPass, TakesTurn}
 use Rattle.cr_ports.specs.Writing.{Outlet, WritesAnswers, AnswerBreaksOff}
 use Rattle.cr_wire.specs.Wishes.{closes}
@@ -106,11 +106,11 @@ Turns turns.OutOfMemory w b b' = (b' ≡ b) × MayWantMemory b.history w
 -- What it did with the keeper, on this history, of what was drawn. Nothing was tried where memory ran out, nor for a
 -- query, for whose answer it may run out later.
 abbrev pub TurnTries : {K : Type 0} → Tries K → TurnResult → History → Option Drawn → K → K → Type 0
-TurnTries tries (turns.Refused refused) H d old new = tries false H d old new
-TurnTries tries (turns.Accepted receipt) H d old new = tries false H d old new
-TurnTries tries (turns.Answered reply) H d old new = tries false H d old new × tries true H None old new
-TurnTries tries turns.Lost H d old new = tries true H d old new
-TurnTries tries turns.OutOfMemory H d old new = tries true H None old new
+TurnTries tries (turns.Refused refused) H d old new = tries H (kept_of d) old new
+TurnTries tries (turns.Accepted receipt) H d old new = tries H (kept_of d) old new
+TurnTries tries (turns.Answered reply) H d old new = tries H (kept_of d) old new × tries H Nothing old new
+TurnTries tries turns.Lost H d old new = tries H (lost_of d) old new
+TurnTries tries turns.OutOfMemory H d old new = tries H Nothing old new
 
 -- how what breaks a rule is refused
 abbrev pub refused_for : Broken → Refused
@@ -186,7 +186,7 @@ pub record TurnsInVain {K : Type 0} (tries : Tries K) (w : Wish) (p p' : KnownPa
   pub found : SeenBook K
   pub leaves : SeenBook K
   pub as_left : IsAsLeft p found
-  pub tried : tries true seen None found.keeper leaves.keeper
+  pub tried : tries seen Nothing found.keeper leaves.keeper
   pub turn : p' ≡ after_turn p leaves seen seen faults faults
 
 -- what one request did, as number n: it was judged once and answered once, or its answer's write failed, or memory was
