@@ -3,7 +3,7 @@ use Rattle.std.proofs.Common.{◌≡◌, ◌∙◌, ◌⊎◌, ℕ, ◌+◌, Lis
 use Rattle.std.proofs.Common.{ap, subst, append_assoc, arith, inl, inr, length-append}
 use Rattle.cr_base.specs.Lists.{listed}
 use Rattle.cr_ports.specs.Stream.{and_left}
-use Rattle.cr_http.specs.Requests.{ended_clean, ended_cut, asked, closed}
+use Rattle.cr_http.specs.Requests.{End, ended_clean, ended_cut, asked, closed}
 use Rattle.cr_http.proofs.Moving.{and_left-nil, and_left-append}
 use Rattle.cr_session.specs.declared.serve.Ending.{Ending}
 use Rattle.cr_session.specs.declared.serve.Ending.TheVariants as endings
@@ -14,8 +14,9 @@ use Rattle.cr_session.specs.Tries.{Tries}
 use Rattle.cr_session.specs.Passing.{KnownPass, TakesTurns}
 use Rattle.cr_session.specs.Turning.{TurnsInVain}
 use Rattle.cr_session.specs.Serving.{World, EndsAs, CountsReads, ConnectionInHistory, GoesOnInHistory, GivesNote}
-use Rattle.cr_session.specs.Serving.{TellsWantOfMemory, ReadsNoFurther, note_at, refusal_at}
+use Rattle.cr_session.specs.Serving.{TellsWantOfMemory, TextEnds, ReadsNoFurther, note_at, refusal_at}
 use Rattle.cr_session.specs.Wishes.{Spells, Begins, Reaches}
+use Rattle.cr_session.proofs.Endings.{failed-ends}
 use Rattle.cr_session.proofs.NoFurther.{no_further-append, no_further-still}
 use Rattle.cr_session.proofs.Turns.{answers-append}
 use Rattle.cr_session.proofs.Passes.{takes-append}
@@ -73,52 +74,72 @@ noted n js ks None head d e f x (inr is) = inr (stopped n js ks d e f x is)
 
 -- ---- by the ending
 
+text_ends : (end : End) (n : ℕ) (text rest : List ℕ) (js ks : List JudgedWish) (d e f : Desk)
+    → Reaches n text (wishes_of js) rest → GivesAnswers (answers n js) d e
+    → TextEnds (n + length js) rest rest ks e f end → TextEnds n text text (js ++ ks) d f end
+text_ends end n text rest js ks d e f reach first x =
+    record { spells = spells_on n text rest js ks end reach x.spells; gave = gave_all n js ks d e f first x.gave }
+
 module _ {K : Type 0} (tries : Tries K) where
   ends_on : (ending : Ending) (n : ℕ) (text rest : List ℕ) (js ks : List JudgedWish) (failed : Option JudgedWish)
       (p p' : KnownPass K) (d e f : Desk)
       → Reaches n text (wishes_of js) rest → GivesAnswers (answers n js) d e
-      → EndsAs (TakesTurns tries) (TurnsInVain tries) ending (n + length js) rest rest ks failed p p' e f
-      → EndsAs (TakesTurns tries) (TurnsInVain tries) ending n text text (js ++ ks) failed p p' d f
+      → EndsAs (n + length js) rest rest ks e f (TurnsInVain tries) p p' failed ending
+      → EndsAs n text text (js ++ ks) d f (TurnsInVain tries) p p' failed ending
   ends_on ending n text rest js ks (Some j) p p' d e f reach first x =
       let number : n + length js + length ks ≡ n + length (js ++ ks) = let l =
-      length-append js ks in omega (arith, l) in (
-        x.0,
-        subst (λ (all : List JudgedWish). Begins n text (wishes_of all)) (sym (append_assoc js ks (j ∷ [])))
-            (begins_on n text rest js (ks ++ j ∷ []) reach x.1),
-        broke_off n js ks (answer_of (n + length (js ++ ks)) j) d e f first
-            (subst (λ (k : ℕ). AnswerFails (answers (n + length js) ks) (answer_of k j) e f) number x.2),
-      )
+      length-append js ks in omega (arith, l) in
+      let parts = failed-ends (TurnsInVain tries) ending (n + length js) rest rest ks j p p' e f x in
+      subst (λ (y : Ending). EndsAs n text text (js ++ ks) d f (TurnsInVain tries) p p' (Some j) y) (sym parts.0)
+      (record {
+        begins =
+            subst (λ (all : List JudgedWish). Begins n text (wishes_of all)) (sym (append_assoc js ks (j ∷ [])))
+            (begins_on n text rest js (ks ++ j ∷ []) reach parts.1.begins);
+        fails = broke_off n js ks (answer_of (n + length (js ++ ks)) j) d e f first
+            (subst (λ (k : ℕ). AnswerFails (answers (n + length js) ks) (answer_of k j) e f) number parts.1.fails);
+      })
   ends_on endings.Clean n text rest js ks None p p' d e f reach first x =
-      (spells_on n text rest js ks ended_clean reach x.0, gave_all n js ks d e f first x.1)
+      text_ends ended_clean n text rest js ks d e f reach first x
   ends_on endings.Cut n text rest js ks None p p' d e f reach first x =
-      (spells_on n text rest js ks ended_cut reach x.0, gave_all n js ks d e f first x.1)
+      text_ends ended_cut n text rest js ks d e f reach first x
   ends_on (endings.Closed whys.Asked) n text rest js ks None p p' d e f reach first x =
-      (spells_on n text rest js ks asked reach x.0, gave_all n js ks d e f first x.1)
-  ends_on (endings.Closed (whys.Refused why)) n text rest js ks None p p' d e f reach first x = (
-    x.0,
-    x.1,
-    spells_on n text rest js ks (closed why x.0) reach x.2,
-    gave_on n js ks (refusal_at why x.0 x.1 ∷ []) d e f first x.3,
-  )
+      text_ends asked n text rest js ks d e f reach first x
+  ends_on (endings.Closed (whys.Refused why)) n text rest js ks None p p' d e f reach first x = record {
+    head = x.head;
+    at = x.at;
+    spells = spells_on n text rest js ks (closed why x.head) reach x.spells;
+    gave = gave_on n js ks (refusal_at why x.head x.at ∷ []) d e f first x.gave;
+  }
   ends_on endings.ReadFault n text rest js ks None p p' d e f reach first x =
-      (which x.0, gave_all n js ks d e f first x.1)
+      record { spells = which x.spells; gave = gave_all n js ks d e f first x.gave }
     where
       which : Spells (n + length js) rest (wishes_of ks) ended_clean
           ⊎ Spells (n + length js) rest (wishes_of ks) ended_cut
           → Spells n text (wishes_of (js ++ ks)) ended_clean ⊎ Spells n text (wishes_of (js ++ ks)) ended_cut
       which (inl is) = inl (spells_on n text rest js ks ended_clean reach is)
       which (inr is) = inr (spells_on n text rest js ks ended_cut reach is)
-  ends_on endings.WriteFault n text rest js ks None p p' d e f reach first x = (
-    x.0,
-    x.1,
-    x.2,
-    spells_on n text rest js ks (closed x.0 x.1) reach x.3,
-    broke_off n js ks (refusal_at x.0 x.1 x.2) d e f first x.4,
-  )
-  ends_on endings.ClockFault n text rest js ks None p p' d e f reach first x =
-      (x.0, reaches_on n text rest x.0 js ks reach x.1, x.2, stopped n js ks d e f first x.3)
-  ends_on endings.OutOfMemory n text rest js ks None p p' d e f reach first x =
-      (x.0, reaches_on n text rest x.0 js ks reach x.1, x.2, x.3, x.4, x.5, noted n js ks x.2 x.4 d e f first x.6)
+  ends_on endings.WriteFault n text rest js ks None p p' d e f reach first x = record {
+    why = x.why;
+    head = x.head;
+    at = x.at;
+    spells = spells_on n text rest js ks (closed x.why x.head) reach x.spells;
+    fails = broke_off n js ks (refusal_at x.why x.head x.at) d e f first x.fails;
+  }
+  ends_on endings.ClockFault n text rest js ks None p p' d e f reach first x = record {
+    rest = x.rest;
+    reaches = reaches_on n text rest x.rest js ks reach x.reaches;
+    settled = x.settled;
+    fails = stopped n js ks d e f first x.fails;
+  }
+  ends_on endings.OutOfMemory n text rest js ks None p p' d e f reach first x = record {
+    rest = x.rest;
+    reaches = reaches_on n text rest x.rest js ks reach x.reaches;
+    read = x.read;
+    lacks = x.lacks;
+    head = x.head;
+    to_head = x.to_head;
+    tells = noted n js ks x.read x.head d e f first x.tells;
+  }
 
 counts_on : (ending : Ending) (f g h : ℕ) → g ≡ f → CountsReads ending g h → CountsReads ending f h
 counts_on ending f g h same c = subst (λ (x : ℕ). CountsReads ending x h) same c
@@ -159,8 +180,8 @@ module _ {K S : Type 0} (tries : Tries K) (left : S → Option (List ℕ)) (give
         ends = ends_on tries ending 0 (a ++ (x.got ++ y.got)) (b ++ y.got) x.answered y.answered y.failed y.judged
             u.state w.desk v.desk u.desk
             (reach_now 0 a x.got y.got x.answered b x.reaches) x.answering
-            (subst (λ (k : ℕ). EndsAs (TakesTurns tries) (TurnsInVain tries) ending k (b ++ y.got) (b ++ y.got)
-            y.answered y.failed y.judged u.state v.desk u.desk) number
+            (subst (λ (k : ℕ). EndsAs k (b ++ y.got) (b ++ y.got) y.answered v.desk u.desk (TurnsInVain tries) y.judged
+            u.state y.failed ending) number
             y.ends);
         ended = y.ended;
         counts = counts_on ending w.read_faults v.read_faults u.read_faults x.counts y.counts;

@@ -12,10 +12,10 @@ use Rattle.cr_session.specs.declared.serve.Why.TheVariants as whys
 use Rattle.cr_session.specs.Replay.{JudgedWish, Ledger, Replays}
 use Rattle.cr_book.specs.Seen.{SeenBook}
 use Rattle.cr_session.specs.Tries.{Tries}
-use Rattle.cr_session.specs.Passing.{KnownPass, TakesTurns}
+use Rattle.cr_session.specs.Passing.{KnownPass}
 use Rattle.cr_session.specs.Turning.{MayWantMemory, TurnsInVain}
-use Rattle.cr_session.specs.Serving.{World, MayLackMemory, EndsAs, EndsTurns, ConnectionInHistory, ConnectionBytes}
-use Rattle.cr_session.specs.Serving.{WholeBytes, StaysInVain}
+use Rattle.cr_session.specs.Serving.{World, MayLackMemory, AnswerFailed, EndsAs, EndsTurns, ConnectionInHistory}
+use Rattle.cr_session.specs.Serving.{ConnectionBytes, WholeBytes, StaysInVain}
 use Rattle.cr_session.proofs.Alone.{StaysBehind, behind-none, behind-vain, replays-closed}
 use Rattle.cr_wire.specs.declared.what.Wish.{Wish}
 
@@ -29,39 +29,51 @@ no_turns endings.WriteFault b b' same = same
 no_turns endings.ClockFault b b' same = same
 no_turns endings.OutOfMemory b b' same = tt
 
+-- where the write of a wish's answer failed, that is how it ends
+pub failed-ends : {B : Type 0} (Lacks : Wish → B → B → Type 0) (ending : Ending) (n : ℕ) (came text : List ℕ)
+    (answered : List JudgedWish) (failed : JudgedWish) (b b' : B) (d d' : Desk)
+    → EndsAs n came text answered d d' Lacks b b' (Some failed) ending
+    → (ending ≡ endings.WriteFault) × AnswerFailed n came text answered d d' failed
+failed-ends Lacks endings.WriteFault n came text answered failed b b' d d' e = (refl, e)
+failed-ends Lacks endings.Clean n came text answered failed b b' d d' e = absurd e
+failed-ends Lacks endings.Cut n came text answered failed b b' d d' e = absurd e
+failed-ends Lacks (endings.Closed why) n came text answered failed b b' d d' e = absurd e
+failed-ends Lacks endings.ReadFault n came text answered failed b b' d d' e = absurd e
+failed-ends Lacks endings.ClockFault n came text answered failed b b' d d' e = absurd e
+failed-ends Lacks endings.OutOfMemory n came text answered failed b b' d d' e = absurd e
+
 -- no turn was taken behind those for wishes, or the one in which memory ran out
-pub behind_judged : {B : Type 0} (Judges : List JudgedWish → B → B → Type 0) (Lacks : Wish → B → B → Type 0)
-    (ending : Ending) (n : ℕ) (came text : List ℕ) (answered : List JudgedWish) (failed : Option JudgedWish) (b b' : B)
-    (d d' : Desk)
-    → EndsTurns ending b b' → EndsAs Judges Lacks ending n came text answered failed b b' d d'
+pub behind_judged : {B : Type 0} (Lacks : Wish → B → B → Type 0) (ending : Ending) (n : ℕ) (came text : List ℕ)
+    (answered : List JudgedWish) (failed : Option JudgedWish) (b b' : B) (d d' : Desk)
+    → EndsTurns ending b b' → EndsAs n came text answered d d' Lacks b b' failed ending
     → (b' ≡ b) ⊎ ((w : Wish) × Lacks w b b')
-behind_judged Judges Lacks endings.Clean n came text answered failed b b' d d' same e = inl same
-behind_judged Judges Lacks endings.Cut n came text answered failed b b' d d' same e = inl same
-behind_judged Judges Lacks (endings.Closed why) n came text answered failed b b' d d' same e = inl same
-behind_judged Judges Lacks endings.ReadFault n came text answered failed b b' d d' same e = inl same
-behind_judged Judges Lacks endings.WriteFault n came text answered failed b b' d d' same e = inl same
-behind_judged Judges Lacks endings.ClockFault n came text answered failed b b' d d' same e = inl same
-behind_judged Judges Lacks endings.OutOfMemory n came text answered (Some failed) b b' d d' same e = absurd (cc (e.0))
-behind_judged Judges Lacks endings.OutOfMemory n came text answered None b b' d d' same e = by e.3
+behind_judged Lacks endings.Clean n came text answered failed b b' d d' same e = inl same
+behind_judged Lacks endings.Cut n came text answered failed b b' d d' same e = inl same
+behind_judged Lacks (endings.Closed why) n came text answered failed b b' d d' same e = inl same
+behind_judged Lacks endings.ReadFault n came text answered failed b b' d d' same e = inl same
+behind_judged Lacks endings.WriteFault n came text answered failed b b' d d' same e = inl same
+behind_judged Lacks endings.ClockFault n came text answered failed b b' d d' same e = inl same
+behind_judged Lacks endings.OutOfMemory n came text answered (Some failed) b b' d d' same e = absurd e
+behind_judged Lacks endings.OutOfMemory n came text answered None b b' d d' same e = by e.lacks
   where
-    by : MayLackMemory Judges Lacks e.2 b b' e.0 → (b' ≡ b) ⊎ ((w : Wish) × Lacks w b b')
+    by : MayLackMemory Lacks e.read b b' e.rest → (b' ≡ b) ⊎ ((w : Wish) × Lacks w b b')
     by (inl lacks) = inl lacks.1
     by (inr lacks) = inr (lacks.0, lacks.4)
 
 module _ {K : Type 0} (tries : Tries K) where
   pub stays_behind : (ending : Ending) (n : ℕ) (came text : List ℕ) (answered : List JudgedWish)
       (failed : Option JudgedWish) (q p : KnownPass K) (d d' : Desk)
-      → EndsTurns ending q p → EndsAs (TakesTurns tries) (TurnsInVain tries) ending n came text answered failed q p d d'
+      → EndsTurns ending q p → EndsAs n came text answered d d' (TurnsInVain tries) q p failed ending
       → StaysBehind q p
   stays_behind ending n came text answered failed q p d d' settled ends =
       ⊎_elim (λ same. behind-none q p same) (λ turn. behind-vain tries turn.0 q p turn.1)
-      (behind_judged (TakesTurns tries) (TurnsInVain tries) ending n came text answered failed q p d d' settled ends)
+      (behind_judged (TurnsInVain tries) ending n came text answered failed q p d d' settled ends)
 
   -- what is wanted of a pass is wanted of the ledger
   lacks_alike : (read : Option ℕ) (q p : KnownPass K) (b : Ledger) (rest : List ℕ)
       → ((w : Wish) → TurnsInVain tries w q p → MayWantMemory b.history w)
-      → MayLackMemory (TakesTurns tries) (TurnsInVain tries) read q p rest
-      → MayLackMemory Replays StaysInVain read b b rest
+      → MayLackMemory (TurnsInVain tries) read q p rest
+      → MayLackMemory StaysInVain read b b rest
   lacks_alike read q p b rest vain (inl lacks) = inl (lacks.0, refl)
   lacks_alike read q p b rest vain (inr lacks) = inr (lacks.0, lacks.1, lacks.2, lacks.3, (refl, vain lacks.0 lacks.4))
 
@@ -69,9 +81,11 @@ module _ {K : Type 0} (tries : Tries K) where
       (failed : Option JudgedWish) (q p : KnownPass K) (b : Ledger)
       (d d' : Desk)
       → ((w : Wish) → TurnsInVain tries w q p → MayWantMemory b.history w)
-      → EndsAs (TakesTurns tries) (TurnsInVain tries) ending n came text answered failed q p d d'
-      → EndsAs Replays StaysInVain ending n came text answered failed b b d d'
-  ends_alike ending n came text answered (Some failed) q p b d d' vain e = e
+      → EndsAs n came text answered d d' (TurnsInVain tries) q p failed ending
+      → EndsAs n came text answered d d' StaysInVain b b failed ending
+  ends_alike ending n came text answered (Some failed) q p b d d' vain e =
+      let parts = failed-ends (TurnsInVain tries) ending n came text answered failed q p d d' e in
+      subst (λ (x : Ending). EndsAs n came text answered d d' StaysInVain b b (Some failed) x) (sym parts.0) parts.1
   ends_alike endings.Clean n came text answered None q p b d d' vain e = e
   ends_alike endings.Cut n came text answered None q p b d d' vain e = e
   ends_alike (endings.Closed whys.Asked) n came text answered None q p b d d' vain e = e
@@ -79,16 +93,23 @@ module _ {K : Type 0} (tries : Tries K) where
   ends_alike endings.ReadFault n came text answered None q p b d d' vain e = e
   ends_alike endings.WriteFault n came text answered None q p b d d' vain e = e
   ends_alike endings.ClockFault n came text answered None q p b d d' vain e = e
-  ends_alike endings.OutOfMemory n came text answered None q p b d d' vain e =
-      (e.0, e.1, e.2, lacks_alike e.2 q p b e.0 vain e.3, e.4, e.5, e.6)
+  ends_alike endings.OutOfMemory n came text answered None q p b d d' vain e = record {
+    rest = e.rest;
+    reaches = e.reaches;
+    read = e.read;
+    lacks = lacks_alike e.read q p b e.rest vain e.lacks;
+    head = e.head;
+    to_head = e.to_head;
+    tells = e.tells;
+  }
 
 -- a ledger stays behind the turns of the wishes
 pub ledger_stays : (ending : Ending) (n : ℕ) (came text : List ℕ) (answered : List JudgedWish)
     (failed : Option JudgedWish) (b b' : Ledger) (d d' : Desk)
-    → EndsTurns ending b b' → EndsAs Replays StaysInVain ending n came text answered failed b b' d d' → b' ≡ b
+    → EndsTurns ending b b' → EndsAs n came text answered d d' StaysInVain b b' failed ending → b' ≡ b
 ledger_stays ending n came text answered failed b b' d d' settled ends =
     ⊎_elim (λ same. same) (λ turn. turn.1.0)
-    (behind_judged Replays StaysInVain ending n came text answered failed b b' d d' settled ends)
+    (behind_judged StaysInVain ending n came text answered failed b b' d d' settled ends)
 
 -- so Replay leads to the ledger at the end
 pub replayed : {S : Type 0} (left : S → Option (List ℕ)) (gives : S → S → List ℕ → Type 0) (ending : Ending) (n : ℕ)

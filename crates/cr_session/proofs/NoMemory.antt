@@ -49,7 +49,7 @@ module _ {B : Type 0} (Judges : List JudgedWish → B → B → Type 0) (Lacks :
     → Option (List ℕ)) (gives : S → S → List ℕ → Type 0) where
   pub no_memory : (ending : Ending) (n : ℕ) (i got : List ℕ) (read : Option ℕ) (head : Bool) (w w' : World B S)
       → ending ≡ endings.OutOfMemory
-      → IsToHead (i ++ got) head → MayLackMemory Judges Lacks read w.state w'.state (i ++ got)
+      → IsToHead (i ++ got) head → MayLackMemory Lacks read w.state w'.state (i ++ got)
       → left w.source ≡ and_left got (left w'.source) → TellsWantOfMemory [] read head w.desk w'.desk
       → w'.read_faults ≡ w.read_faults
       → ReadsNoFurther left gives n [] w.source w'.source i (i ++ got)
@@ -63,7 +63,15 @@ module _ {B : Type 0} (Judges : List JudgedWish → B → B → Type 0) (Lacks :
         judged = w.state;
         turns = none w.state;
         settled = tt;
-        ends = (i ++ got, record { requests = []; wish = tt; reaches = refl }, read, may, head, to, notes);
+        ends = record {
+          rest = i ++ got;
+          reaches = record { requests = []; wish = tt; reaches = refl };
+          read = read;
+          lacks = may;
+          head = head;
+          to_head = to;
+          tells = notes;
+        };
         ended = tt;
         counts = counts;
         needed = needed;

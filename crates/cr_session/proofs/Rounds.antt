@@ -106,8 +106,8 @@ module _ {K S : Type 0} (tries : Tries K) (left : S → Option (List ℕ)) (give
     judged = w'.state;
     turns = takes-one tries y.0.judged w.state w'.state y.0.turned;
     settled = refl;
-    ends = (
-      record {
+    ends = record {
+      spells = record {
         requests = x.says.request ∷ [];
         wish = one_wish y.0.judged wish x.says.request y.0.wish x.says.wish;
         spells = (
@@ -116,9 +116,9 @@ module _ {K S : Type 0} (tries : Tries K) (left : S → Option (List ℕ)) (give
           last-closes n i' (closes_behind n x.says.request)
               (closes-behind n x.says.request wish true x.says.wish y.1),
         );
-      },
-      record { timed = wish-timed y.0.judged wish w.desk.clock w'.desk.clock y.0.wish timed; written = y.2 },
-    );
+      };
+      gave = record { timed = wish-timed y.0.judged wish w.desk.clock w'.desk.clock y.0.wish timed; written = y.2 };
+    };
     ended = tt;
     counts = counts;
     needed = no_further-one left gives n (y.0.judged ∷ []) w.source w'.source i (i ++ x.got) x.needed;
@@ -137,20 +137,19 @@ module _ {K S : Type 0} (tries : Tries K) (left : S → Option (List ℕ)) (give
     judged = w'.state;
     turns = takes-one tries y.0.judged w.state w'.state y.0.turned;
     settled = refl;
-    ends = (
-      refl,
-      record {
+    ends = record {
+      begins = record {
         requests = x.says.request ∷ [];
         wish = one_wish y.0.judged wish x.says.request y.0.wish x.says.wish;
         begins = (i', x.says.stands, either (closes_behind n x.says.request));
-      },
-      record {
+      };
+      fails = record {
         timed = wish-timed y.0.judged wish w.desk.clock w'.desk.clock y.0.wish timed;
         broken =
             (let number : n ≡ n + 0 = omega arith in subst
             (λ (k : ℕ). AnswerBreaksOff [] (answer_to k y.0.judged) w.desk.sink w'.desk.sink) number y.1);
-      },
-    );
+      };
+    };
     ended = tt;
     counts = counts;
     needed = no_further-one left gives n [] w.source w'.source i (i ++ x.got) x.needed;
@@ -191,8 +190,8 @@ module _ {K S : Type 0} (tries : Tries K) (left : S → Option (List ℕ)) (give
   -- no wish was judged: what stands there, or a fault, ended the connection
   unanswered : (ending : Ending) (n : ℕ) (i i' : List ℕ) (w w' : World (KnownPass K) S) (read : WishRead)
       (x : ReadsWish left gives w.source w'.source i i' read)
-      → EndsAs (TakesTurns tries) (TurnsInVain tries) ending n (i ++ x.got) (i ++ x.got) [] None w.state w'.state w.desk
-      w'.desk → EndsSource ending (left w'.source)
+      → EndsAs n (i ++ x.got) (i ++ x.got) [] w.desk w'.desk (TurnsInVain tries) w.state w'.state None ending
+      → EndsSource ending (left w'.source)
       → CountsReads ending w.read_faults w'.read_faults → w'.state ≡ w.state
       → ConnectionInHistory tries left gives ending n i w w'
   unanswered ending n i i' w w' read x ends ended counts same = record {
@@ -222,27 +221,29 @@ module _ {K S : Type 0} (tries : Tries K) (left : S → Option (List ℕ)) (give
   round_refused endings.OutOfMemory n why head at i i' w w' x timed y same counts = absurd y
   round_refused (endings.Closed whys.Asked) n why head at i i' w w' x timed y same counts = absurd y
   round_refused (endings.Closed (whys.Refused said)) n why head at i i' w w' x timed y same counts =
-      unanswered (endings.Closed (whys.Refused said)) n i i' w w' (reads.Malformed why head at) x (
-        head,
-        at,
-        spells-none n (i ++ x.got) (closed said head)
-            (refused why head, x.says, ap (λ (v : Refusal). closed v head) y.0),
-        record {
+      unanswered (endings.Closed (whys.Refused said)) n i i' w w' (reads.Malformed why head at) x
+      (record {
+        head = head;
+        at = at;
+        spells = spells-none n (i ++ x.got) (closed said head)
+            (refused why head, x.says, ap (λ (v : Refusal). closed v head) y.0);
+        gave = record {
           timed = timed;
           written =
               subst (λ (v : Refusal). WritesAnswers (closing_text v head at ∷ []) w.desk.sink w'.desk.sink) (sym y.0)
               y.1;
-        },
-      )
+        };
+      })
       tt counts same
   round_refused endings.WriteFault n why head at i i' w w' x timed y same counts =
-      unanswered endings.WriteFault n i i' w w' (reads.Malformed why head at) x (
-        why,
-        head,
-        at,
-        spells-none n (i ++ x.got) (closed why head) (refused why head, x.says, refl),
-        record { timed = timed; broken = y },
-      )
+      unanswered endings.WriteFault n i i' w w' (reads.Malformed why head at) x
+      (record {
+        why = why;
+        head = head;
+        at = at;
+        spells = spells-none n (i ++ x.got) (closed why head) (refused why head, x.says, refl);
+        fails = record { timed = timed; broken = y };
+      })
       tt counts same
 
   pub round_cut : (n : ℕ) (i i' : List ℕ) (w w' : World (KnownPass K) S)
@@ -251,7 +252,10 @@ module _ {K S : Type 0} (tries : Tries K) (left : S → Option (List ℕ)) (give
       → w'.read_faults ≡ w.read_faults → ConnectionInHistory tries left gives endings.Cut n i w w'
   round_cut n i i' w w' x timed same sink counts =
       unanswered endings.Cut n i i' w w' reads.Cut x
-      (spells-none n (i ++ x.got) ended_cut (cut, x.says, refl), gives-none w.desk w'.desk sink timed)
+      (record {
+        spells = spells-none n (i ++ x.got) ended_cut (cut, x.says, refl);
+        gave = gives-none w.desk w'.desk sink timed;
+      })
       x.ended counts same
 
   pub round_clean : (n : ℕ) (i i' : List ℕ) (w w' : World (KnownPass K) S)
@@ -260,7 +264,10 @@ module _ {K S : Type 0} (tries : Tries K) (left : S → Option (List ℕ)) (give
       → w'.read_faults ≡ w.read_faults → ConnectionInHistory tries left gives endings.Clean n i w w'
   round_clean n i i' w w' x timed same sink counts =
       unanswered endings.Clean n i i' w w' reads.Clean x
-      (spells-none n (i ++ x.got) ended_clean (clean, x.says, refl), gives-none w.desk w'.desk sink timed)
+      (record {
+        spells = spells-none n (i ++ x.got) ended_clean (clean, x.says, refl);
+        gave = gives-none w.desk w'.desk sink timed;
+      })
       x.ended counts same
 
   pub round_read_fault : (n : ℕ) (i i' : List ℕ) (w w' : World (KnownPass K) S)
@@ -269,8 +276,8 @@ module _ {K S : Type 0} (tries : Tries K) (left : S → Option (List ℕ)) (give
       → w'.state ≡ w.state → w'.desk.sink ≡ w.desk.sink
       → ConnectionInHistory tries left gives endings.ReadFault n i w w'
   round_read_fault n i i' w w' x timed rises same sink =
-      unanswered endings.ReadFault n i i' w w' reads.ReadFault x (which x.says, gives-none w.desk w'.desk sink timed) tt
-      rises same
+      unanswered endings.ReadFault n i i' w w' reads.ReadFault x
+      (record { spells = which x.says; gave = gives-none w.desk w'.desk sink timed }) tt rises same
     where
       which : StandsAt (i ++ x.got) clean ⊎ StandsAt (i ++ x.got) cut → Spells n (i ++ x.got) [] ended_clean
           ⊎ Spells n (i ++ x.got) [] ended_cut
@@ -282,16 +289,17 @@ module _ {K S : Type 0} (tries : Tries K) (left : S → Option (List ℕ)) (give
       → FailsBehind [] w.desk.clock w'.desk.clock → w'.state ≡ w.state → w'.desk.sink ≡ w.desk.sink
       → w'.read_faults ≡ w.read_faults → ConnectionInHistory tries left gives endings.ClockFault n i w w'
   round_clock_fault n i i' w w' x failed same sink counts =
-      unanswered endings.ClockFault n i i' w w' reads.ClockFault x (
-        i ++ x.got,
-        record { requests = []; wish = tt; reaches = refl },
-        x.says,
-        record {
+      unanswered endings.ClockFault n i i' w w' reads.ClockFault x
+      (record {
+        rest = i ++ x.got;
+        reaches = record { requests = []; wish = tt; reaches = refl };
+        settled = x.says;
+        fails = record {
           failed = failed;
           written = (gives-none w.desk (record { sink = w'.desk.sink; clock = w.desk.clock }) sink
               (moments-nil w.desk.clock)).written;
-        },
-      )
+        };
+      })
       tt counts same
 
   -- ---- the last request that may come closes

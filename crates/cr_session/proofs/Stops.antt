@@ -8,7 +8,7 @@ use Rattle.cr_book.specs.Seen.{SeenBook}
 use Rattle.cr_lock.specs.Closing.{Closes}
 use Rattle.cr_session.specs.Answering.{Desk}
 use Rattle.cr_session.specs.declared.serve.Ending.{Ending}
-use Rattle.cr_session.specs.Passing.{KnownPass, TakesTurns}
+use Rattle.cr_session.specs.Passing.{KnownPass}
 use Rattle.cr_session.specs.Replay.{JudgedWish}
 use Rattle.cr_session.specs.Serving.{ConnectionInHistory}
 use Rattle.cr_session.specs.Stopping.{KeepsWishes}
@@ -72,5 +72,4 @@ module _ {K S Root : Type 0} (tells : Bool) (rows : K → Option (List Row)) (tr
         -- behind the turns of the wishes nothing is tried
         last : x.keeper ≡ alone.1.keeper
         last = ⊎_elim at_rest (λ turn. in_vain turn.0 turn.1)
-            (behind_judged (TakesTurns tries) (TurnsInVain tries) ending 0 c.got c.got c.answered c.failed c.judged p' d
-            d' c.settled c.ends)
+            (behind_judged (TurnsInVain tries) ending 0 c.got c.got c.answered c.failed c.judged p' d d' c.settled c.ends)

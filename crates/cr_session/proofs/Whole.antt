@@ -14,6 +14,7 @@ use Rattle.cr_session.specs.Answering.{Desk}
 use Rattle.cr_session.specs.Serving.{World, EndsAs, EndsSource, CountsReads, Connection, WholeText}
 use Rattle.cr_wire.specs.declared.what.Wish.{Wish}
 use Rattle.cr_session.specs.Wishes.{Spells, Begins}
+use Rattle.cr_session.proofs.Endings.{failed-ends}
 use Rattle.cr_session.proofs.Runs.{IsClosing}
 use Rattle.cr_session.proofs.WishRuns.{Spells-more, Begins-more, Spells-begins, Reaches-begins}
 
@@ -44,29 +45,54 @@ module _ {B : Type 0} (Judges : List JudgedWish → B → B → Type 0) (Lacks :
       (failed : Option JudgedWish) (p p' : B)
       (d d' : Desk)
       → left' ≡ Some rest → b ≡ came ++ rest → EndsSource ending left'
-      → EndsAs Judges Lacks ending 0 came came answered failed p p' d d'
-      → EndsAs Judges Lacks ending 0 came b answered failed p p' d d'
+      → EndsAs 0 came came answered d d' Lacks p p' failed ending
+      → EndsAs 0 came b answered d d' Lacks p p' failed ending
   ends_whole ending came b rest left' answered (Some j) p p' d d' told is end e =
-      (e.0, begins_all came b rest (wishes_of (answered ++ j ∷ [])) is e.1, e.2)
+      let parts = failed-ends Lacks ending 0 came came answered j p p' d d' e in
+      subst (λ (y : Ending). EndsAs 0 came b answered d d' Lacks p p' (Some j) y) (sym parts.0)
+      (record {
+        begins = begins_all came b rest (wishes_of (answered ++ j ∷ [])) is parts.1.begins;
+        fails = parts.1.fails;
+      })
   ends_whole endings.Clean came b rest left' answered None p p' d d' told is end e =
-      (spells_all came b rest left' (wishes_of answered) ended_clean told is end e.0, e.1)
+      record { spells = spells_all came b rest left' (wishes_of answered) ended_clean told is end e.spells; gave = e.gave }
   ends_whole endings.Cut came b rest left' answered None p p' d d' told is end e =
-      (spells_all came b rest left' (wishes_of answered) ended_cut told is end e.0, e.1)
+      record { spells = spells_all came b rest left' (wishes_of answered) ended_cut told is end e.spells; gave = e.gave }
   ends_whole (endings.Closed whys.Asked) came b rest left' answered None p p' d d' told is end e =
-      (spells_closed came b rest (wishes_of answered) asked is tt e.0, e.1)
-  ends_whole (endings.Closed (whys.Refused why)) came b rest left' answered None p p' d d' told is end e =
-      (e.0, e.1, spells_closed came b rest (wishes_of answered) (closed why e.0) is tt e.2, e.3)
-  ends_whole endings.ReadFault came b rest left' answered None p p' d d' told is end e = e
-  ends_whole endings.WriteFault came b rest left' answered None p p' d d' told is end e =
-      (e.0, e.1, e.2, spells_closed came b rest (wishes_of answered) (closed e.0 e.1) is tt e.3, e.4)
-  ends_whole endings.ClockFault came b rest left' answered None p p' d d' told is end e = e
-  ends_whole endings.OutOfMemory came b rest left' answered None p p' d d' told is end e = e
+      record { spells = spells_closed came b rest (wishes_of answered) asked is tt e.spells; gave = e.gave }
+  ends_whole (endings.Closed (whys.Refused why)) came b rest left' answered None p p' d d' told is end e = record {
+    head = e.head;
+    at = e.at;
+    spells = spells_closed came b rest (wishes_of answered) (closed why e.head) is tt e.spells;
+    gave = e.gave;
+  }
+  ends_whole endings.ReadFault came b rest left' answered None p p' d d' told is end e =
+      record { spells = e.spells; gave = e.gave }
+  ends_whole endings.WriteFault came b rest left' answered None p p' d d' told is end e = record {
+    why = e.why;
+    head = e.head;
+    at = e.at;
+    spells = spells_closed came b rest (wishes_of answered) (closed e.why e.head) is tt e.spells;
+    fails = e.fails;
+  }
+  ends_whole endings.ClockFault came b rest left' answered None p p' d d' told is end e =
+      record { rest = e.rest; reaches = e.reaches; settled = e.settled; fails = e.fails }
+  ends_whole endings.OutOfMemory came b rest left' answered None p p' d d' told is end e = record {
+    rest = e.rest;
+    reaches = e.reaches;
+    read = e.read;
+    lacks = e.lacks;
+    head = e.head;
+    to_head = e.to_head;
+    tells = e.tells;
+  }
 
   begins_judged : (ending : Ending) (came : List ℕ) (answered : List JudgedWish) (failed : Option JudgedWish) (p p' : B)
       (d d' : Desk)
-      → EndsAs Judges Lacks ending 0 came came answered failed p p' d d'
+      → EndsAs 0 came came answered d d' Lacks p p' failed ending
       → Begins 0 came (wishes_of (answered ++ listed failed))
-  begins_judged ending came answered (Some j) p p' d d' e = e.1
+  begins_judged ending came answered (Some j) p p' d d' e =
+      (failed-ends Lacks ending 0 came came answered j p p' d d' e).1.begins
   begins_judged ending came answered None p p' d d' e =
       subst (λ (all : List JudgedWish). Begins 0 came (wishes_of all)) (sym (append-nil answered)) (by ending e)
     where
@@ -75,15 +101,16 @@ module _ {B : Type 0} (Judges : List JudgedWish → B → B → Type 0) (Lacks :
       either (inl is) = Spells-begins 0 came (wishes_of answered) ended_clean is
       either (inr is) = Spells-begins 0 came (wishes_of answered) ended_cut is
 
-      by : (x : Ending) → EndsAs Judges Lacks x 0 came came answered None p p' d d' → Begins 0 came (wishes_of answered)
-      by endings.Clean x = Spells-begins 0 came (wishes_of answered) ended_clean x.0
-      by endings.Cut x = Spells-begins 0 came (wishes_of answered) ended_cut x.0
-      by (endings.Closed whys.Asked) x = Spells-begins 0 came (wishes_of answered) asked x.0
-      by (endings.Closed (whys.Refused why)) x = Spells-begins 0 came (wishes_of answered) (closed why x.0) x.2
-      by endings.ReadFault x = either x.0
-      by endings.WriteFault x = Spells-begins 0 came (wishes_of answered) (closed x.0 x.1) x.3
-      by endings.ClockFault x = Reaches-begins 0 came (wishes_of answered) x.0 x.1
-      by endings.OutOfMemory x = Reaches-begins 0 came (wishes_of answered) x.0 x.1
+      by : (x : Ending) → EndsAs 0 came came answered d d' Lacks p p' None x → Begins 0 came (wishes_of answered)
+      by endings.Clean x = Spells-begins 0 came (wishes_of answered) ended_clean x.spells
+      by endings.Cut x = Spells-begins 0 came (wishes_of answered) ended_cut x.spells
+      by (endings.Closed whys.Asked) x = Spells-begins 0 came (wishes_of answered) asked x.spells
+      by (endings.Closed (whys.Refused why)) x =
+          Spells-begins 0 came (wishes_of answered) (closed why x.head) x.spells
+      by endings.ReadFault x = either x.spells
+      by endings.WriteFault x = Spells-begins 0 came (wishes_of answered) (closed x.why x.head) x.spells
+      by endings.ClockFault x = Reaches-begins 0 came (wishes_of answered) x.rest x.reaches
+      by endings.OutOfMemory x = Reaches-begins 0 came (wishes_of answered) x.rest x.reaches
 
   module _ {S : Type 0} (left : S → Option (List ℕ)) (gives : S → S → List ℕ → Type 0) where
     pub whole_text : (ending : Ending) (b : List ℕ) (w w' : World B S)
@@ -118,25 +145,27 @@ module _ {B : Type 0} (Judges : List JudgedWish → B → B → Type 0) (Lacks :
         → ending ≡ endings.WriteFault → Rises w.desk.sink.faults w'.desk.sink.faults
     write_rises ending n i w w' c is =
         by c.failed
-        (subst (λ (e : Ending). EndsAs Judges Lacks e n (i ++ c.got) (i ++ c.got) c.answered c.failed c.judged
-        w'.state w.desk w'.desk) is c.ends)
+        (subst (λ (e : Ending). EndsAs n (i ++ c.got) (i ++ c.got) c.answered w.desk w'.desk Lacks c.judged w'.state
+        c.failed e) is c.ends)
       where
-        by : (failed : Option JudgedWish) → EndsAs Judges Lacks endings.WriteFault n (i ++ c.got)
-            (i ++ c.got) c.answered failed c.judged w'.state w.desk w'.desk
+        by : (failed : Option JudgedWish)
+            → EndsAs n (i ++ c.got) (i ++ c.got) c.answered w.desk w'.desk Lacks c.judged w'.state failed
+            endings.WriteFault
             → Rises w.desk.sink.faults w'.desk.sink.faults
-        by (Some j) e = e.2.broken.rises
-        by None e = e.4.broken.rises
+        by (Some j) e = e.fails.broken.rises
+        by None e = e.fails.broken.rises
 
     pub clock_rises : (ending : Ending) (n : ℕ) (i : List ℕ) (w w' : World B S)
         → Connection Judges Lacks left gives ending n i w w'
         → ending ≡ endings.ClockFault → Rises w.desk.clock.faults w'.desk.clock.faults
     clock_rises ending n i w w' c is =
         by c.failed
-        (subst (λ (e : Ending). EndsAs Judges Lacks e n (i ++ c.got) (i ++ c.got) c.answered c.failed c.judged
-        w'.state w.desk w'.desk) is c.ends)
+        (subst (λ (e : Ending). EndsAs n (i ++ c.got) (i ++ c.got) c.answered w.desk w'.desk Lacks c.judged w'.state
+        c.failed e) is c.ends)
       where
-        by : (failed : Option JudgedWish) → EndsAs Judges Lacks endings.ClockFault n (i ++ c.got)
-            (i ++ c.got) c.answered failed c.judged w'.state w.desk w'.desk
+        by : (failed : Option JudgedWish)
+            → EndsAs n (i ++ c.got) (i ++ c.got) c.answered w.desk w'.desk Lacks c.judged w'.state failed
+            endings.ClockFault
             → Rises w.desk.clock.faults w'.desk.clock.faults
-        by (Some j) e = absurd (cc (e.0))
-        by None e = e.3.failed.rises
+        by (Some j) e = absurd e
+        by None e = e.fails.failed.rises

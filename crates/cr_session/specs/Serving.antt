@@ -7,7 +7,7 @@ use Rattle.cr_ports.specs.Stream.{Taken, and_left}
 use Rattle.cr_http.specs.declared.refusal.Refusal.{Refusal}
 use Rattle.cr_http.specs.Filling.{IsAtEnd, ReadsWhile}
 use Rattle.cr_http.specs.Reading.{IsSettled, IsUnsettled}
-use Rattle.cr_http.specs.Requests.{ended_clean, ended_cut, asked, closed}
+use Rattle.cr_http.specs.Requests.{End, ended_clean, ended_cut, asked, closed}
 use Rattle.cr_http.specs.ToHead.{IsToHead}
 use Rattle.cr_print.specs.Answers.{closing_text, no_memory_text}
 use Rattle.cr_session.specs.declared.serve.Ending.{Ending}
@@ -140,53 +140,89 @@ abbrev pub ReadsNoFurther : {S : Type 0} → (S → Option (List ℕ)) → (S �
 ReadsNoFurther left gives n answered source source' old new =
     ReadsWhile left gives (WantsBehind n (wishes_of answered)) source source' old new
 
+-- ---- how a connection ends
+
+-- Memory ran out in the turn of the wish that was read, whose moment this is: of turns on a state of the type B, in
+-- which `Lacks` says that memory ran out for a wish.
+abbrev pub LacksInTurn : {B : Type 0} → (Wish → B → B → Type 0) → Option ℕ → B → B → List ℕ → Type 0
+LacksInTurn Lacks at b b' rest =
+    (w : Wish) × (after : List ℕ) × StandsWish rest w after × (at ≡ Some w.at) × Lacks w b b'
+
+-- memory ran out behind the answers so far, where this moment was read for the request that comes next, or none: in
+-- reading it, or in its turn
+abbrev pub MayLackMemory : {B : Type 0} → (Wish → B → B → Type 0) → Option ℕ → B → B → List ℕ → Type 0
+MayLackMemory Lacks at b b' rest = (MayWantToRead at rest × (b' ≡ b)) ⊎ LacksInTurn Lacks at b b' rest
+
+-- From request number n on, where these bytes came of this text, and these wishes were judged and answered whole: what
+-- the desk was at first and is in the end. Each answer was begun once, before its first byte, and has the moment that
+-- the one call of the clock gave which was made for it.
+module _ (n : ℕ) (came text : List ℕ) (answered : List JudgedWish) (d d' : Desk) where
+  -- the text spells these wishes, and so it ends
+  pub record TextEnds (end : End) : Type 0 where
+    pub spells : Spells n text (wishes_of answered) end
+    pub gave : GivesAnswers (answers n answered) d d'
+
+  -- what stands behind them is no request for this reason, and was refused
+  pub record RefusalGiven (why : Refusal) : Type 0 where
+    pub head : Bool
+    pub at : ℕ
+    pub spells : Spells n text (wishes_of answered) (closed why head)
+    pub gave : GivesAnswers (answers n answered ++ refusal_at why head at ∷ []) d d'
+
+  -- what stands behind them is no request, and the write of its refusal failed
+  pub record RefusalFailed : Type 0 where
+    pub why : Refusal
+    pub head : Bool
+    pub at : ℕ
+    pub spells : Spells n text (wishes_of answered) (closed why head)
+    pub fails : AnswerFails (answers n answered) (refusal_at why head at) d d'
+
+  -- one more wish was judged, and the write of its answer failed
+  pub record AnswerFailed (failed : JudgedWish) : Type 0 where
+    pub begins : Begins n text (wishes_of (answered ++ failed ∷ []))
+    pub fails : AnswerFails (answers n answered) (answer_of (n + length answered) failed) d d'
+
+  -- a read failed where the bytes that came end, between two requests or inside one
+  pub record ReadFailed : Type 0 where
+    pub spells : Spells n came (wishes_of answered) ended_clean ⊎ Spells n came (wishes_of answered) ended_cut
+    pub gave : GivesAnswers (answers n answered) d d'
+
+  -- the clock failed for a whole request, or for what is none, that stands behind them: neither was judged or answered
+  pub record ClockFailed : Type 0 where
+    pub rest : List ℕ
+    pub reaches : Reaches n came (wishes_of answered) rest
+    pub settled : IsSettled rest
+    pub fails : ClockFails (answers n answered) d d'
+
+  module _ {B : Type 0} (Lacks : Wish → B → B → Type 0) (b b' : B) where
+    -- memory ran out behind them, for what stands there, which was read so far that it is one to HEAD or isn't
+    pub record MemoryRanOut : Type 0 where
+      pub rest : List ℕ
+      pub reaches : Reaches n came (wishes_of answered) rest
+      pub read : Option ℕ
+      pub lacks : MayLackMemory Lacks read b b' rest
+      pub head : Bool
+      pub to_head : IsToHead rest head
+      pub tells : TellsWantOfMemory (answers n answered) read head d d'
+
+    -- One of these, by the ending, and by the wish whose answer's write failed, if there is one.
+    abbrev pub EndsAs : Option JudgedWish → Ending → Type 0
+    EndsAs None endings.Clean = TextEnds ended_clean
+    EndsAs None endings.Cut = TextEnds ended_cut
+    EndsAs None (endings.Closed whys.Asked) = TextEnds asked
+    EndsAs None (endings.Closed (whys.Refused why)) = RefusalGiven why
+    EndsAs None endings.ReadFault = ReadFailed
+    EndsAs None endings.WriteFault = RefusalFailed
+    EndsAs None endings.ClockFault = ClockFailed
+    EndsAs None endings.OutOfMemory = MemoryRanOut
+    EndsAs (Some failed) endings.WriteFault = AnswerFailed failed
+    EndsAs (Some failed) _ = ⊥
+
 -- ---- a whole connection
 
 -- Of turns on a state of the type B: these wishes were judged in turn from one state to the other, and memory
 -- ran out in the turn of this wish.
 module _ {B : Type 0} (Judges : List JudgedWish → B → B → Type 0) (Lacks : Wish → B → B → Type 0) where
-  -- memory ran out in the turn of the wish that was read, whose moment this is
-  abbrev pub LacksInTurn : Option ℕ → B → B → List ℕ → Type 0
-  LacksInTurn at b b' rest =
-      (w : Wish) × (after : List ℕ) × StandsWish rest w after × (at ≡ Some w.at) × Lacks w b b'
-
-  -- memory ran out behind the answers so far, where this moment was read for the request that comes next, or none: in
-  -- reading it, or in its turn
-  abbrev pub MayLackMemory : Option ℕ → B → B → List ℕ → Type 0
-  MayLackMemory at b b' rest = (MayWantToRead at rest × (b' ≡ b)) ⊎ LacksInTurn at b b' rest
-
-  -- From request number n on, where these bytes came of this text: which wishes were answered whole, which one was
-  -- judged and its answer's write failed, what the sink took, and what the clock gave: each answer was begun once,
-  -- before its first byte, and has the moment that the one call of the clock gave which was made for it.
-  abbrev pub EndsAs : Ending → ℕ → List ℕ → List ℕ → List JudgedWish → Option JudgedWish → B → B
-      → Desk → Desk → Type 0
-  EndsAs ending n came text answered (Some failed) b b' d d' =
-      (ending ≡ endings.WriteFault) × Begins n text (wishes_of (answered ++ failed ∷ []))
-      × AnswerFails (answers n answered) (answer_of (n + length answered) failed) d d'
-  EndsAs endings.Clean n came text answered None b b' d d' =
-      Spells n text (wishes_of answered) ended_clean × GivesAnswers (answers n answered) d d'
-  EndsAs endings.Cut n came text answered None b b' d d' =
-      Spells n text (wishes_of answered) ended_cut × GivesAnswers (answers n answered) d d'
-  EndsAs (endings.Closed whys.Asked) n came text answered None b b' d d' =
-      Spells n text (wishes_of answered) asked × GivesAnswers (answers n answered) d d'
-  EndsAs (endings.Closed (whys.Refused why)) n came text answered None b b' d d' =
-      (head : Bool) × (at : ℕ) × Spells n text (wishes_of answered) (closed why head)
-      × GivesAnswers (answers n answered ++ refusal_at why head at ∷ []) d d'
-  EndsAs endings.ReadFault n came text answered None b b' d d' =
-      (Spells n came (wishes_of answered) ended_clean ⊎ Spells n came (wishes_of answered) ended_cut)
-      × GivesAnswers (answers n answered) d d'
-  EndsAs endings.WriteFault n came text answered None b b' d d' =
-      (why : Refusal) × (head : Bool) × (at : ℕ) × Spells n text (wishes_of answered) (closed why head)
-      × AnswerFails (answers n answered) (refusal_at why head at) d d'
-  -- a whole request stands behind those that were answered, or what is none, and neither was judged nor answered
-  EndsAs endings.ClockFault n came text answered None b b' d d' =
-      (rest : List ℕ) × Reaches n came (wishes_of answered) rest × IsSettled rest
-      × ClockFails (answers n answered) d d'
-  EndsAs endings.OutOfMemory n came text answered None b b' d d' =
-      (rest : List ℕ) × Reaches n came (wishes_of answered) rest
-      × (read : Option ℕ) × MayLackMemory read b b' rest
-      × (head : Bool) × IsToHead rest head × TellsWantOfMemory (answers n answered) read head d d'
-
   -- A connection from request number n on, with these bytes in the inbox, up to its ending.
   pub record Connection {S : Type 0} (left : S → Option (List ℕ)) (gives : S → S → List ℕ → Type 0)
       (ending : Ending) (n : ℕ) (inbox : List ℕ)
@@ -201,7 +237,7 @@ module _ {B : Type 0} (Judges : List JudgedWish → B → B → Type 0) (Lacks :
     pub judged : B
     pub turns : Judges (answered ++ listed failed) w.state judged
     pub settled : EndsTurns ending judged w'.state
-    pub ends : EndsAs ending n (inbox ++ got) (inbox ++ got) answered failed judged w'.state w.desk w'.desk
+    pub ends : EndsAs n (inbox ++ got) (inbox ++ got) answered w.desk w'.desk Lacks judged w'.state failed ending
     pub ended : EndsSource ending (left w'.source)
     pub counts : CountsReads ending w.read_faults w'.read_faults
     pub needed : ReadsNoFurther left gives n answered w.source w'.source inbox (inbox ++ got)
@@ -233,7 +269,7 @@ module _ {B : Type 0} (Judges : List JudgedWish → B → B → Type 0) (Lacks :
     pub turns : Judges (answered ++ listed failed) w.state judged
     pub settled : EndsTurns ending judged w'.state
     pub begins : Begins 0 b (wishes_of (answered ++ listed failed))
-    pub ends : EndsAs ending 0 came b answered failed judged w'.state w.desk w'.desk
+    pub ends : EndsAs 0 came b answered w.desk w'.desk Lacks judged w'.state failed ending
 
 -- ---- the turns of a pass: between them others may take theirs
 

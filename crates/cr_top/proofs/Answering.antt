@@ -21,7 +21,7 @@ use Rattle.cr_session.specs.Wishes.{Spells}
 use Rattle.cr_wire.specs.Wishes.{closes}
 use Rattle.cr_session.specs.Serving.{EndsAs, CountsReads, StaysInVain}
 use Rattle.cr_session.proofs.Turns.{counted}
-use Rattle.cr_session.proofs.Endings.{replayed_whole}
+use Rattle.cr_session.proofs.Endings.{failed-ends, replayed_whole}
 use Rattle.cr_top.specs.declared.exit.Exit.{Exit}
 use Rattle.cr_top.specs.declared.exit.Exit.TheVariants as exits
 use Rattle.cr_top.specs.Exits.{exit_of}
@@ -98,30 +98,32 @@ ended : (ending : Ending) (came b : List ℕ) (answered : List JudgedWish) (fail
     (d d' : Desk) (f g : ℕ)
     → (Rises f g → ⊥) → (Rises d.sink.faults d'.sink.faults → ⊥) → (Rises d.clock.faults d'.clock.faults → ⊥)
     → CountsReads ending f g
-    → EndsAs Replays StaysInVain ending 0 came b answered failed p q d d'
+    → EndsAs 0 came b answered d d' StaysInVain p q failed ending
     → (exit_of ending ≡ exits.OutOfMemory) ⊎ (Answered (exit_of ending) b answered d d' × (failed ≡ None))
-ended ending came b answered (Some j) p q d d' f g read written timed counts e = absurd (written e.2.broken.rises)
+ended ending came b answered (Some j) p q d d' f g read written timed counts e =
+    absurd (written (failed-ends StaysInVain ending 0 came b answered j p q d d' e).1.fails.broken.rises)
 ended endings.Clean came b answered None p q d d' f g read written timed counts e =
-    inr (unrefused exits.Done ended_clean b answered d d' e.0 refl refl e.1, refl)
+    inr (unrefused exits.Done ended_clean b answered d d' e.spells refl refl e.gave, refl)
 ended endings.Cut came b answered None p q d d' f g read written timed counts e =
-    inr (unrefused exits.Cut ended_cut b answered d d' e.0 refl refl e.1, refl)
+    inr (unrefused exits.Cut ended_cut b answered d d' e.spells refl refl e.gave, refl)
 ended (endings.Closed whys.Asked) came b answered None p q d d' f g read written timed counts e =
-    inr (unrefused exits.Done asked b answered d d' e.0 refl refl e.1, refl)
+    inr (unrefused exits.Done asked b answered d d' e.spells refl refl e.gave, refl)
 ended (endings.Closed (whys.Refused why)) came b answered None p q d d' f g read written timed counts e =
     inr (
       record {
-        end = closed why e.0;
-        spells = wishes b (wishes_of answered) (closed why e.0) e.2;
+        end = closed why e.head;
+        spells = wishes b (wishes_of answered) (closed why e.head) e.spells;
         exit_is = refl;
-        at = e.1;
-        told = e.3;
+        at = e.at;
+        told = e.gave;
       },
       refl,
     )
 ended endings.ReadFault came b answered None p q d d' f g read written timed counts e = absurd (read counts.1)
 ended endings.WriteFault came b answered None p q d d' f g read written timed counts e =
-    absurd (written e.4.broken.rises)
-ended endings.ClockFault came b answered None p q d d' f g read written timed counts e = absurd (timed e.3.failed.rises)
+    absurd (written e.fails.broken.rises)
+ended endings.ClockFault came b answered None p q d d' f g read written timed counts e =
+    absurd (timed e.fails.failed.rises)
 ended endings.OutOfMemory came b answered None p q d d' f g read written timed counts e = inl refl
 
 module _ {I : Type 0} (opening : History) where

@@ -43,8 +43,8 @@ module _ {K I O C : Type 0} (streams : Streams K I O C) where
       let more : marks k.judged.mine ≤ marks c.after.mine =
       ⊎_elim (λ same. marks-same streams.tries k.judged c.after same)
       (λ turn. marks-vain streams.tries turn.0 k.judged c.after turn.1)
-      (behind_judged (TakesTurns streams.tries) (TurnsInVain streams.tries) c.ending 0 k.got k.got k.answered k.failed
-      k.judged c.after _ _ k.settled k.ends) in
+      (behind_judged (TurnsInVain streams.tries) c.ending 0 k.got k.got k.answered k.failed k.judged c.after _ _
+      k.settled k.ends) in
       let sum =
       ap marks x.mine ∙ total_append (λ (t : Turn Stamped). if t.marked then 1 else 0) c.before.mine c.turns in
       omega (arith, most, more, sum)

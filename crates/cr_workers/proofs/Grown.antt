@@ -79,5 +79,5 @@ module _ {K : Type 0} (tries : Tries K) where
   grown-connection left gives ending w w' c =
       grown-then w.state c.judged w'.state (grown-takes (c.answered ++ listed c.failed) w.state c.judged c.turns)
       (⊎_elim (λ same. grown-none c.judged w'.state same) (λ turn. grown-vain turn.0 c.judged w'.state turn.1)
-      (behind_judged (TakesTurns tries) (TurnsInVain tries) ending 0 c.got c.got c.answered c.failed c.judged w'.state
-      w.desk w'.desk c.settled c.ends))
+      (behind_judged (TurnsInVain tries) ending 0 c.got c.got c.answered c.failed c.judged w'.state w.desk w'.desk
+      c.settled c.ends))
