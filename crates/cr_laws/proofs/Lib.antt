@@ -1,2 +1,3 @@
 pub mod HiddenBytesLaws
 pub mod PlanPostedLaws
+pub mod SearchesSpeltLaws

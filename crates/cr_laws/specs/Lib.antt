@@ -1,2 +1,5 @@
+pub mod AskedAlike
 pub mod HiddenBytes
 pub mod PlanPosted
+pub mod ResponseBytes
+pub mod SearchesSpelt

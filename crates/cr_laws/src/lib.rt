@@ -1,11 +1,14 @@
-//! Laws over the definitions of several crates, on which nothing stands: a plan is taken as it was told, and what a
-//! user isn't shown changes no byte that she is answered.
+//! Laws over the definitions of several crates, on which nothing stands: a plan is taken as it was told, a search is
+//! wished as the grammar spells it, and what a user isn't shown changes no byte that she is answered, nor does what an
+//! author isn't told of reviews.
 //!
 //! The definitions stand in this crate's specs. The functions here do nothing: each has a law as its contract.
 #![tactic(auto)]
 
 ghost use Rattle.cr_laws.specs.HiddenBytes.{HiddenBytes};
 ghost use Rattle.cr_laws.specs.PlanPosted.{PlanPosted};
+ghost use Rattle.cr_laws.specs.ResponseBytes.{ResponseBytes};
+ghost use Rattle.cr_laws.specs.SearchesSpelt.{ReadsAsSpelt, WishesAsSpelt};
 
 /// A plan is taken as it was told: on a legal history the text that a chair is told, posted by her as a bulk with
 /// nothing between, spells rows that are accepted, at whatever moment, with a number or without.
@@ -19,4 +22,20 @@ pub fn law_plan_posted()
 /// come to be alike in several such steps. Whoever else may ask whatever else.
 pub fn law_hidden_bytes()
     ensures { HiddenBytes }
+{}
+
+/// Two runs in which a user wishes the same at the same moments agree in every byte that she is answered where, at each
+/// of her wishes, the histories differ only in forms that others wrote of her papers and of which she is told nothing:
+/// up to the notification in the score, the confidence and the texts of those that aren't the last of their label
+/// before the response, and in whether there is one that was written when it had been opened. They may differ too in
+/// what `law_hidden_bytes` speaks of, or come to be alike in several such steps. Whoever else may ask whatever else.
+pub fn law_response_bytes()
+    ensures { ResponseBytes }
+{}
+
+/// What a request wishes by the text of a search is what the grammar says of that text, and nothing else: the steps of
+/// the tree that the text spells, or a bad query at the offset at which the text is bad.
+pub fn law_searches_spelt()
+    ensures read { ReadsAsSpelt }
+    ensures wished { WishesAsSpelt }
 {}

@@ -1,0 +1,5 @@
+use Rattle.cr_laws.proofs.HiddenBytesLaws.{response_bytes}
+use Rattle.cr_laws.proofs.law_response_bytes.Goals as goal
+
+pub returns : goal.returns
+returns c = response_bytes
