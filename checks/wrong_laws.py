@@ -11,12 +11,13 @@ and looks which laws are false of each.
 
 A rule that definition, view and tables share is the same on both sides of the law that views suffice. What refuses it
 is what is said of rules a second time: of old the invariants of cr_history and that the small conference is legal, and
-since then the clauses of `law_permissions` and `law_goes_on` of cr_permissions, of `law_first_told` of
-cr_conference, and `legal` of `law_undeducible` of cr_undeduced, by which no rule reads a text or a grade. They are
-computed of histories that the planted rules let come about: the small conference phase by phase, and twins of it; for
-nobody and nine users, each command, query and bulk of checks/planted/asked.py; the last of the conference with other
-values in its commands. Of the rules as they stand all have to hold. WORD picks rows by a word of their name, or a
-topic. Ends with status 0 where all were as due.
+since then the clauses of `law_permissions` and `law_goes_on` of cr_permissions, of `law_first_told` of cr_conference,
+and `legal` of `law_undeducible` and `law_twins` of cr_undeduced, by which no rule reads a text or a grade, or which of
+two members it is. They are computed of histories that the planted rules let come about: the small conference phase by
+phase, and twins of it; for nobody and nine users, each command, query and bulk of checks/planted/asked.py; the last two
+of the conference with other values in its commands, and with two members in each other's place at a paper. Of the rules
+as they stand all have to hold. WORD picks rows by a word of their name, or a topic. Ends with status 0 where all were
+as due.
 """
 import concurrent.futures
 import functools
@@ -183,6 +184,7 @@ class Laws:
             self.note("legal", refused[0])
         else:
             self.of_others()
+            self.of_places()
         for name, H in stages.items():
             self.at(name, H, asked.ALONE.get(name))
         self.of_rows()
@@ -240,6 +242,16 @@ class Laws:
                     self.note("undeduced", refused[0])
                     return
 
+    def of_places(self):
+        """The conference in which two members have each other's place at a paper: what was accepted is (the clause
+        `legal` of `law_twins`)."""
+        steps = [step for step in asked.conference() if not isinstance(step, str)]
+        for paper, pair in ((1, (4, 8)), (2, (3, 4))):
+            refused = self.rules.behind(History(()), [asked.in_place(step, paper, pair) for step in steps])[1]
+            if refused:
+                self.note("twins", refused[0])
+                return
+
     def of_rows(self):
         for action, command in asked.ROWS.items():
             row = asked.row("7", action, "bob", "t")
@@ -271,8 +283,8 @@ def computed(row):
 
 def due(row):
     """The laws that a row says are false: the new ones, those of old, and that nothing hidden can be ruled out."""
-    undeduced = {"undeduced"} if row.words("undeduced") else set()
-    return set(row.words("clauses")) | set(row.words("of old")) | undeduced
+    others = {key for key in ("undeduced", "twins") if row.words(key)}
+    return set(row.words("clauses")) | set(row.words("of old")) | others
 
 
 def by_computing(rows):

@@ -115,6 +115,22 @@ def with_others(seed, place, command):
     return (kind, *filled)
 
 
+# what may be done at a paper by who isn't its author; of some of these a user is named
+AT_PAPERS = ("SetConflict", "Bid", "Assign", "Unassign", "Review", "Comment", "Tag", "Decide", "Invite", "Uninvite")
+
+
+def in_place(step, paper, pair):
+    """The step with the two users in each other's place, as who does it and as who is named, where it is at the paper."""
+    user, (kind, *parts) = step
+    if kind not in AT_PAPERS or parts[0] != some(paper):
+        return step
+    one, other = pair
+    users = {some(one): some(other), some(other): some(one)}
+    names = {named(NAMES[one - 1]): named(NAMES[other - 1]), named(NAMES[other - 1]): named(NAMES[one - 1])}
+    named_one = kind in ("SetConflict", "Assign", "Unassign", "Invite", "Uninvite")
+    return users.get(user, user), (kind, parts[0], *(names.get(x, x) if named_one else x for x in parts[1:]))
+
+
 # twins: behind which stage, and what else is done there
 TWINS = {
     "gus is a chair": ("bidding", [(some(1), ("Name", named("gus"), ("Chair",)))]),
