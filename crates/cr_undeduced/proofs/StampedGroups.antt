@@ -1,7 +1,7 @@
 -- Under other stamps a history tells the rules the same, and the entries of a command stay under one stamp.
 use Rattle.std.proofs.Common.{ℕ, Bool, true, false, ◌≡◌, suc, List, [], ◌∷◌, ◌++◌, length, refl, sym, ap, subst, ◌∙◌}
 use Rattle.std.proofs.Common.{Option, Some, None, append_assoc, append-nil}
-use Rattle.std.specs.Prelude.{map, not, unwrap_or}
+use Rattle.std.specs.Prelude.{map, not, unwrap_or, IsTrue}
 use Rattle.cr_base.specs.declared.entry.Entry.{Entry}
 use Rattle.cr_base.specs.declared.entry.Stamp.{Stamp}
 use Rattle.cr_base.specs.declared.entry.Stamped.{Stamped}
@@ -136,8 +136,8 @@ module _ (group : List (Option ℕ)) where
 
   -- what fits the first entry of a command, which stands behind a whole history
   pub record FirstFits (xs : ℕ → Payload) (H : History) (e : Stamped) : Type 0 where
-    pub timed : in_time (new_stamp xs H e.stamp).at (with_stamps group None xs H)
-        ≡ in_time e.stamp.at (with_stamps group None xs H)
+    pub timed : in_time e.stamp.at (with_stamps group None xs H) ≡ true
+        → in_time (new_stamp xs H e.stamp).at (with_stamps group None xs H) ≡ true
     pub numbered : HasNewNumber (with_stamps group None xs H) (new_stamp xs H e.stamp) e.entry
 
   pub first-fits : (xs : ℕ → Payload) (H : History) (e : Stamped) (later : History) → IsWhole H
@@ -145,7 +145,7 @@ module _ (group : List (Option ℕ)) where
   first-fits xs H e later whole fits = record {
     timed =
         place-at (λ (before : History) (e : Stamped) (own : Stamped).
-        in_time e.stamp.at before ≡ in_time own.stamp.at before) [] other H new e rest later
+        IsTrue (in_time own.stamp.at before) → IsTrue (in_time e.stamp.at before)) [] other H new e rest later
         (length-stamped None xs H) here.timed;
     numbered =
         in-turn _ (other ++ new ∷ rest) other new rest refl here.numbered

@@ -46,7 +46,7 @@ use Rattle.cr_undeduced.proofs.RefilledLegal.{leads-grow}
 use Rattle.cr_undeduced.proofs.RefilledSteps.{behind-bounded}
 use Rattle.cr_undeduced.proofs.StampedGroups.{told-stamped, tables-stamped, behind-stamped, new_stamp, FirstFits}
 use Rattle.cr_undeduced.proofs.StampedGroups.{first-fits}
-use Rattle.cr_undeduced.proofs.StampedJudged.{deed_of, call-redrawn, BulkRedrawn, bulk-redrawn}
+use Rattle.cr_undeduced.proofs.StampedJudged.{IsNoLater, deed_of, call-redrawn, BulkRedrawn, bulk-redrawn}
 
 -- ---- too late
 
@@ -67,11 +67,11 @@ late-said H legal at =
     phase : phase_of H ≡ (tables_of H).stage.phase
     phase = ap (λ standing. standing.phase) ((Legal-told H legal).standing None None)
 
-as-late : (H : History) → Legal H → (at own : ℕ) → in_time at H ≡ in_time own H
-    → is_late_in (tables_of H).stage at ≡ is_late_in (tables_of H).stage own
-as-late H legal at own same =
-    not-same (is_late_in (tables_of H).stage at) (is_late_in (tables_of H).stage own)
-    (late-said H legal at ∙ same ∙ sym (late-said H legal own))
+no-later : (H : History) → Legal H → (own at : ℕ) → (in_time own H ≡ true → in_time at H ≡ true)
+    → IsNoLater (tables_of H).stage own at
+no-later H legal own at fits early =
+    not-same (is_late_in (tables_of H).stage at) false
+    (late-said H legal at ∙ fits (sym (late-said H legal own) ∙ ap not early))
 
 -- ---- whose a command is
 
@@ -154,12 +154,12 @@ module _ (group : List (Option ℕ)) (xs : ℕ → Payload) (bounded : (n : ℕ)
   tables-same : (H : History) → tables_of (other H) ≡ tables_of H
   tables-same H = tables-stamped group no_tables None xs H
 
-  late-same : (H : History) → Legal (other H) → (e : Stamped) → FirstFits group xs H e
-      → is_late_in (tables_of H).stage (new_stamp group xs H e.stamp).at ≡ is_late_in (tables_of H).stage e.stamp.at
-  late-same H legal' e fits =
+  late-fits : (H : History) → Legal (other H) → (e : Stamped) → FirstFits group xs H e
+      → IsNoLater (tables_of H).stage e.stamp.at (new_stamp group xs H e.stamp).at
+  late-fits H legal' e fits =
       subst
-      (λ (t : Tables). is_late_in t.stage (new_stamp group xs H e.stamp).at ≡ is_late_in t.stage e.stamp.at)
-      (tables-same H) (as-late (other H) legal' (new_stamp group xs H e.stamp).at e.stamp.at fits.timed)
+      (λ (t : Tables). IsNoLater t.stage e.stamp.at (new_stamp group xs H e.stamp).at) (tables-same H)
+      (no-later (other H) legal' e.stamp.at (new_stamp group xs H e.stamp).at fits.timed)
 
   -- ---- one group
 
@@ -206,10 +206,10 @@ module _ (group : List (Option ℕ)) (xs : ℕ → Payload) (bounded : (n : ℕ)
       call' = call_of call.caller again.at again.key call.command
 
       group_is : drawn.group ≡ grouped own (deed_of t call).entries
-      group_is = (call-redrawn t call call.at call.key drawn refl judged_by_tables).own
+      group_is = (call-redrawn t call call.at call.key drawn (λ early. early) judged_by_tables).own
 
       -- where it is as late, and may be given by that number
-      legal-again : is_late_in t.stage again.at ≡ is_late_in t.stage call.at → IsKeyOf call.caller again.key
+      legal-again : IsNoLater t.stage call.at again.at → IsKeyOf call.caller again.key
           → IsNewKey (other H) call.caller again.key → Legal (other (H ++ drawn.group))
       legal-again same key new =
           let redrawn = call-redrawn t call again.at again.key drawn same judged_by_tables in
@@ -241,8 +241,8 @@ module _ (group : List (Option ℕ)) (xs : ℕ → Payload) (bounded : (n : ℕ)
               group-fits H own e es later to legal
               (there ∙ ap (λ (g : History). (H ++ g) ++ later) (group_is ∙ ap (grouped own) entries)) fits
 
-          same : is_late_in t.stage again.at ≡ is_late_in t.stage call.at
-          same = late-same H legal' (stamped own fitting.0 e) fitting.1
+          same : IsNoLater t.stage call.at again.at
+          same = late-fits H legal' (stamped own fitting.0 e) fitting.1
 
           of : Whose call.caller call.command → Legal (other (H ++ drawn.group))
           of (nobodys name digest registers nobody) =
@@ -284,8 +284,9 @@ module _ (group : List (Option ℕ)) (xs : ℕ → Payload) (bounded : (n : ℕ)
       judged_by_tables =
           sym (Legal-judge_bulk H bulk legal allowed.given.caller (given-bounded H bulk allowed.given)) ∙ is
 
-      own : BulkRedrawn t bulk.stamp bulk.stamp.at bulk.stamp.key refl bulk.rows drawn
-      own = bulk-redrawn t bulk.stamp bulk.stamp.at bulk.stamp.key refl bulk.rows drawn judged_by_tables
+      own : BulkRedrawn t bulk.stamp bulk.stamp.at bulk.stamp.key bulk.rows drawn
+      own =
+          bulk-redrawn t bulk.stamp bulk.stamp.at bulk.stamp.key bulk.rows drawn (λ early. early) judged_by_tables
 
       again : Stamp
       again = new_stamp group xs H bulk.stamp
@@ -311,11 +312,11 @@ module _ (group : List (Option ℕ)) (xs : ℕ → Payload) (bounded : (n : ℕ)
               group-fits H bulk.stamp e es later to legal
               (there ∙ ap (λ (g : History). (H ++ g) ++ later) (own.own ∙ ap (grouped bulk.stamp) entries)) fits
 
-          same : is_late_in t.stage again.at ≡ is_late_in t.stage bulk.stamp.at
-          same = late-same H legal' (stamped bulk.stamp fitting.0 e) fitting.1
+          same : IsNoLater t.stage bulk.stamp.at again.at
+          same = late-fits H legal' (stamped bulk.stamp fitting.0 e) fitting.1
 
-          redrawn : BulkRedrawn t bulk.stamp again.at again.key same bulk.rows drawn
-          redrawn = bulk-redrawn t bulk.stamp again.at again.key same bulk.rows drawn judged_by_tables
+          redrawn : BulkRedrawn t bulk.stamp again.at again.key bulk.rows drawn
+          redrawn = bulk-redrawn t bulk.stamp again.at again.key bulk.rows drawn same judged_by_tables
 
           given : IsBulkAllowed (other H) bulk'
           given = record {

@@ -1,6 +1,6 @@
 -- The other history of a legal one is legal.
 use Rattle.std.proofs.Common.{ℕ, ◌≡◌, ◌≤◌, suc, List, [], ◌∷◌, ◌++◌, sym, ap, subst, ◌∙◌, Option, Some, None}
-use Rattle.std.specs.Prelude.{map}
+use Rattle.std.specs.Prelude.{map, IsTrue}
 use Rattle.cr_base.specs.declared.entry.Stamp.{Stamp}
 use Rattle.cr_base.specs.History.{History, own_bytes_told}
 use Rattle.cr_base.specs.HistoryFacts.{own_bytes_of}
@@ -51,13 +51,12 @@ module _ (looks : List Look) (xs : ℕ → Payload) (H : History) (legal : Legal
       stamped-legal (who_looked looks) xs bounded values
       (subst (λ (G : History). Legal G) (sym filled) legal') (record {
         timed = subst
-            (λ (G : History).
-            PlaceByPlace (λ at e own. in_time e.stamp.at at.before
-            ≡ in_time own.stamp.at at.before) [] (otherwise looks xs H) G)
-            (sym filled)
+            (λ (G : History). PlaceByPlace
+            (λ at e own. IsTrue (in_time own.stamp.at at.before) → IsTrue (in_time e.stamp.at at.before)) []
+            (otherwise looks xs H) G) (sym filled)
             (timed-refilled (λ (before : History) (stamp own : Stamp).
-            in_time stamp.at before
-            ≡ in_time own.at before) ys [] (otherwise looks xs H) H fits.timed);
+            IsTrue (in_time own.at before) → IsTrue (in_time stamp.at before)) ys [] (otherwise looks xs H) H
+            fits.timed);
         numbered = fits.numbered;
       })
 

@@ -49,9 +49,10 @@ abbrev pub HasNewNumber : History → Stamp → Entry → Type 0
 HasNewNumber before stamp (Registered user name digest) = stamp.key ≡ None
 HasNewNumber before stamp e = IsNewKey before (Some stamp.maker) stamp.key
 
--- the other history has stamps that this one's commands might have had: each of its moments is as late for what the
--- phase opens as the one in whose place it stands, and each command's number is new
+-- the other history has stamps that this one's commands might have had: none of its moments is too late for what the
+-- phase opens where the one in whose place it stands isn't, and each command's number is new
 pub record StampsFit (other H : History) : Type 0 where
   pub timed :
-      PlaceByPlace (λ at e own. in_time e.stamp.at at.before ≡ in_time own.stamp.at at.before) [] other H
+      PlaceByPlace (λ at e own. IsTrue (in_time own.stamp.at at.before) → IsTrue (in_time e.stamp.at at.before)) []
+      other H
   pub numbered : InTurn (λ before e. IsTrue (not (goes_on before)) → HasNewNumber before e.stamp e.entry) [] other

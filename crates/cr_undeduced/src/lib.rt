@@ -26,8 +26,8 @@ ghost use Rattle.cr_undeduced.specs.Undeducible.{OthersLegal, ShorterLegal, Look
 /// is shown it: where somebody looked at the notification or later, the last decision on each paper that there was
 /// then, since whether it is accepted everyone is shown.
 ///
-/// The clause `legal` asks that the other values be within the bounds of commands, that each moment be as late for what
-/// the phase opens as the one whose place it takes, that no user have a number twice, nor a registration one
+/// The clause `legal` asks that the other values be within the bounds of commands, that no moment be too late for what
+/// the phase opens unless the one whose place it takes is, that no user have a number twice, nor a registration one
 /// (`StampsFit`), and that nobody have uploaded more than 64 MiB by them; `shorter` asks all but the last, and that no
 /// content be longer than the one whose place it takes. `looks` holds of every history, legal or not. `group` is that
 /// of a group who look at the end: each sees the same view.
