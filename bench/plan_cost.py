@@ -12,8 +12,7 @@ stands beside it (Debian's python3-scipy, which Debian's own python3 finds; left
 a plan of the greatest sum, not the first of them.
 
 The bids: at random; all equal; the same of all members for a paper, or of a member for all papers; some patterns; and
-few, one in twelve, the others none, which a search among some thousand of inputs of other forms found to be the
-dearest.
+few, one in twelve, the others none.
 """
 
 import random
@@ -109,12 +108,12 @@ def main():
             whole, [answer] = seconds(program, made, *asked)
             took = (whole - seconds(program, made)[0]) / TIMES
             said = (f"{papers} papers, {members} members, {per_paper} a paper, {load} at most, "
-                    f"bids {title}: {1000 * took:.1f} ms")
+                    f"bids {title}: {1000 * took:.2f} ms")
             worst = max(worst, (took, said))
             beside = by_scipy(made, load) if per_paper == 1 else None
             if beside is not None:
                 assert beside[1] == sum_of(made, answer), (beside[1], sum_of(made, answer))
-                said += f", scipy {1000 * beside[0]:.1f} ms"
+                said += f", scipy {1000 * beside[0]:.2f} ms"
             print(said, flush=True)
     print(f"the dearest: {worst[1]}")
 
