@@ -1,3 +1,4 @@
 pub mod HiddenBytesLaws
+pub mod GroupRunsLaws
 pub mod PlanPostedLaws
 pub mod SearchesSpeltLaws

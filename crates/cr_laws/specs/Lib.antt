@@ -1,5 +1,6 @@
 pub mod AskedAlike
 pub mod HiddenBytes
+pub mod GroupRuns
 pub mod PlanPosted
 pub mod ResponseBytes
 pub mod SearchesSpelt

@@ -1,10 +1,11 @@
 //! Laws over the definitions of several crates, on which nothing stands: a plan is taken as it was told, a search is
 //! wished as the grammar spells it, and what a user isn't shown changes no byte that she is answered, nor does what an
-//! author isn't told of reviews.
+//! author isn't told of reviews. So it is of users who tell each other all that they are answered.
 //!
 //! The definitions stand in this crate's specs. The functions here do nothing: each has a law as its contract.
 #![tactic(auto)]
 
+ghost use Rattle.cr_laws.specs.GroupRuns.{TwoRunsOfGroup, EachHearsAlike};
 ghost use Rattle.cr_laws.specs.HiddenBytes.{HiddenBytes};
 ghost use Rattle.cr_laws.specs.PlanPosted.{PlanPosted};
 ghost use Rattle.cr_laws.specs.ResponseBytes.{ResponseBytes};
@@ -38,4 +39,14 @@ pub fn law_response_bytes()
 pub fn law_searches_spelt()
     ensures read { ReadsAsSpelt }
     ensures wished { WishesAsSpelt }
+{}
+
+/// Two runs that agree in what a group of users wish, at which moments and in which order, and in what each of them
+/// sees at each wish of her own, agree in every byte that they are answered, in that order (`together`): so they learn
+/// no more of what isn't shown to any of them by telling each other all that they are answered. A run opens with any
+/// history, whoever else may ask whatever else in it, and nothing accepted is lost in it. The group are any users, and
+/// an unauthenticated caller may be among them. Where a group hear alike, so does each of them (`each`).
+pub fn law_group_runs()
+    ensures together { TwoRunsOfGroup }
+    ensures each { EachHearsAlike }
 {}

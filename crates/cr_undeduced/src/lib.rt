@@ -1,7 +1,7 @@
 //! Nothing that is hidden can be ruled out, by any group; and how somebody came to what she may see.
 //!
 //! The definitions stand in this crate's specs, over the views and the legal histories of `cr_policy` and the bounds of
-//! `cr_bounds`. No crate stands on this one. The functions here do nothing: each has a law as its contract.
+//! `cr_bounds`. On this one stands `cr_laws` alone. The functions here do nothing: each has a law as its contract.
 #![tactic(auto)]
 
 ghost use Rattle.cr_undeduced.specs.Deducible.{VersionsTell, FormNumbersTell, CommentNumbersTell, LabelsTell};

@@ -1,0 +1,79 @@
+-- TwoRunsOfGroup: two runs that agree in what a group of users wish, in the order of all their requests, and in what
+-- each of them sees at each of her own agree in every byte that they are answered, in that order. So it tells them
+-- nothing more that they put together whatever they are answered.
+use Rattle.std.specs.Prelude.{◌≡◌, ℕ, List, [], ◌∷◌, ◌++◌, Option, Bool}
+use Rattle.std.specs.List.{list_any, Contains}
+use Rattle.cr_base.specs.History.{History}
+use Rattle.cr_base.specs.Lists.{given}
+use Rattle.cr_policy.specs.View.{view}
+use Rattle.cr_wire.specs.declared.what.Wish.{Wish}
+use Rattle.cr_wire.specs.Caller.{caller}
+use Rattle.cr_session.specs.Told.{told, after_wish}
+use Rattle.cr_session.specs.TwoRuns.{WishInTurn, Run, Encounter, is_hers, HearsAlike}
+
+-- the wish is one of theirs: on the history at its turn one of the group is its caller
+abbrev pub is_theirs : List (Option ℕ) → History → Wish → Bool
+is_theirs group H w = list_any (λ u. is_hers u H w) group
+
+-- ---- what they meet
+
+-- one of them, and what she meets at a wish of hers
+pub record Meeting : Type 0 where
+  pub who : Option ℕ
+  pub met : Encounter
+
+abbrev pub meeting : History → WishInTurn → Meeting
+meeting H w = record {
+  who = caller H w.wish;
+  met = record { seen = view (caller H w.wish) H; wish = w.wish; closes = w.closes };
+}
+
+-- what the group meet from this history on, in the order of all their requests
+abbrev pub group_meets : List (Option ℕ) → History → List WishInTurn → List Meeting
+group_meets group H [] = []
+group_meets group H (w ∷ ws) =
+    given (is_theirs group H w.wish) (meeting H w) ++ group_meets group (after_wish H w.wish) ws
+
+-- ---- what they hear
+
+-- one of them, a wish of hers with its moment, whether its connection closes behind it, and the bytes of the answer
+pub record Exchange : Type 0 where
+  pub who : Option ℕ
+  pub wish : Wish
+  pub closes : Bool
+  pub text : List ℕ
+
+abbrev pub exchange : History → WishInTurn → Exchange
+exchange H w = record {
+  who = caller H w.wish;
+  wish = w.wish;
+  closes = w.closes;
+  text = told H w.wish w.closes;
+}
+
+-- what the group ask and are answered from this history on, in the order of all their requests
+abbrev pub exchanges : List (Option ℕ) → History → List WishInTurn → List Exchange
+exchanges group H [] = []
+exchanges group H (w ∷ ws) =
+    given (is_theirs group H w.wish) (exchange H w) ++ exchanges group (after_wish H w.wish) ws
+
+-- ---- the clauses
+
+-- the runs agree in what the group meet, and in what they ask and hear
+abbrev pub GroupMeetsAlike : List (Option ℕ) → Run → Run → Type 0
+GroupMeetsAlike group one other =
+    group_meets group one.opening one.wishes ≡ group_meets group other.opening other.wishes
+
+abbrev pub GroupHearsAlike : List (Option ℕ) → Run → Run → Type 0
+GroupHearsAlike group one other =
+    exchanges group one.opening one.wishes ≡ exchanges group other.opening other.wishes
+
+-- for every group, nobody among them or not, and any two runs, whatever they open with
+abbrev pub TwoRunsOfGroup : Type 0
+TwoRunsOfGroup = (group : List (Option ℕ)) (one other : Run) → GroupMeetsAlike group one other
+    → GroupHearsAlike group one other
+
+-- and where a group hear alike, so does each of them for herself
+abbrev pub EachHearsAlike : Type 0
+EachHearsAlike = (group : List (Option ℕ)) (one other : Run) (u : Option ℕ) → Contains group u
+    → GroupHearsAlike group one other → HearsAlike u one other
