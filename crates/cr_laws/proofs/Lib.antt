@@ -1,4 +1,17 @@
 pub mod HiddenBytesLaws
 pub mod GroupRunsLaws
+pub mod AcceptedWishes
+pub mod MadeBy
+pub mod FilledWishes
+pub mod TheirWishes
+pub mod OtherRuns
+pub mod UnnumberedLaws
+pub mod UnnumberedRuns
+pub mod UndeducibleBytesLaws
+pub mod Cuts
+pub mod LogIns
+pub mod Movers
+pub mod AnyRunLaws
+pub mod TwinsBytesLaws
 pub mod PlanPostedLaws
 pub mod SearchesSpeltLaws

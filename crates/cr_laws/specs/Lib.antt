@@ -1,6 +1,10 @@
 pub mod AskedAlike
 pub mod HiddenBytes
 pub mod GroupRuns
+pub mod AnotherRun
+pub mod RunsEndSo
+pub mod UndeducibleBytes
+pub mod TwinsBytes
 pub mod PlanPosted
 pub mod ResponseBytes
 pub mod SearchesSpelt

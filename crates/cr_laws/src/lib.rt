@@ -1,6 +1,7 @@
 //! Laws over the definitions of several crates, on which nothing stands: a plan is taken as it was told, a search is
 //! wished as the grammar spells it, and what a user isn't shown changes no byte that she is answered, nor does what an
-//! author isn't told of reviews. So it is of users who tell each other all that they are answered.
+//! author isn't told of reviews. Whatever a group ask, all that they hear could have come of a conference in which what
+//! they weren't shown was different.
 //!
 //! The definitions stand in this crate's specs. The functions here do nothing: each has a law as its contract.
 #![tactic(auto)]
@@ -9,7 +10,10 @@ ghost use Rattle.cr_laws.specs.GroupRuns.{TwoRunsOfGroup, EachHearsAlike};
 ghost use Rattle.cr_laws.specs.HiddenBytes.{HiddenBytes};
 ghost use Rattle.cr_laws.specs.PlanPosted.{PlanPosted};
 ghost use Rattle.cr_laws.specs.ResponseBytes.{ResponseBytes};
+ghost use Rattle.cr_laws.specs.RunsEndSo.{RunsEndSo};
 ghost use Rattle.cr_laws.specs.SearchesSpelt.{ReadsAsSpelt, WishesAsSpelt};
+ghost use Rattle.cr_laws.specs.TwinsBytes.{TwinsHeard};
+ghost use Rattle.cr_laws.specs.UndeducibleBytes.{OthersHeard, ShorterHeard};
 
 /// A plan is taken as it was told: on a legal history the text that a chair is told, posted by her as a bulk with
 /// nothing between, spells rows that are accepted, at whatever moment, with a number or without.
@@ -49,4 +53,44 @@ pub fn law_searches_spelt()
 pub fn law_group_runs()
     ensures together { TwoRunsOfGroup }
     ensures each { EachHearsAlike }
+{}
+
+/// Whatever a group of users ask, all that they hear could have come of a conference in which everything that they
+/// weren't shown was different. Take a run that a legal history opens, a group, and for each place of the history that
+/// it ends in any other payload (`Payload`). There is another run, which a legal history opens too, in which the group
+/// ask the same, at the same moments and in the same order, and hear the same bytes. It ends with these payloads, as in
+/// `law_undeducible`, wherever none of the group was shown the part, where one of them looks whenever she asks; moments
+/// stay; but no command of others has a number in it, since the mark that is kept with that is a digest
+/// of the request, and would be another's.
+///
+/// Two things are left as they are: the entries that one of the group made, since she knows what she asked, and the
+/// digests of secrets, since a guess at one that failed could be right of another. What else is asked in the other run
+/// is not said, but by what it ends in: requests of others that add nothing may be missing. Nothing accepted is lost in
+/// either run, so 503 and 507 are outside. The clause `quota` asks that nobody have uploaded more than 64 MiB by the
+/// other payloads, `shorter` that no content be longer than the one whose place it takes; both that the payloads be
+/// within the bounds of commands.
+pub fn law_undeducible_bytes()
+    ensures quota { OthersHeard }
+    ensures shorter { ShorterHeard }
+{}
+
+/// Which histories a run could have ended in, for all that a group of users were answered in it: each legal one that
+/// looks the same to one of the group whenever she asks, that has what they did and who registered in the same places,
+/// and in which commands end in the same places. Of each such history there is another run, which a legal history
+/// opens, in which the group ask the same, at the same moments and in the same order, and hear the same bytes, and
+/// which ends in it: what others did by it they wish there, each by the name and the digest with which she registered.
+/// So what a law says of histories that look the same, it says of requests and their answers. Nothing accepted is lost
+/// in either run.
+pub fn law_another_run()
+    ensures { RunsEndSo }
+{}
+
+/// Two users of one role, of whom neither wrote a paper, may have had each other's place at it, for all that a group
+/// are answered. Of each run that a legal history opens, and that ends in a history where the two are twins at the
+/// paper by `law_twins`, there is another, which ends in the one where they have changed places, and in which the group
+/// ask the same, at the same moments and in the same order, and hear the same bytes. Neither of the two is one of the
+/// group, nothing that one of the group made names them at the paper, and whoever of the group asks isn't shown then
+/// who made what changes hands, nor whom it names. Nothing accepted is lost in either run.
+pub fn law_twins_bytes()
+    ensures { TwinsHeard }
 {}

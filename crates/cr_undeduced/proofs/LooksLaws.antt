@@ -102,7 +102,7 @@ tags-kept (suc k) looks xs before (e ∷ G) =
     by (entries.Tagged paper tag on) = retold-own tag
     by entry = tt
 
-refilled-take : (k : ℕ) (xs : ℕ → Payload) (H : History) → take k (refilled xs H) ≡ refilled xs (take k H)
+pub refilled-take : (k : ℕ) (xs : ℕ → Payload) (H : History) → take k (refilled xs H) ≡ refilled xs (take k H)
 refilled-take zero xs [] = refl
 refilled-take zero xs (e ∷ H) = refl
 refilled-take (suc k) xs [] = refl

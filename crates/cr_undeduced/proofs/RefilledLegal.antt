@@ -117,7 +117,7 @@ module _ (xs : ℕ → Payload) (bounded : (n : ℕ) → IsBoundedPayload (xs n)
 -- ---- where nobody uploads too much by it, and where no content is longer
 
 module _ (xs : ℕ → Payload) where
-  abbrev FitsQuota : History → Type 0
+  abbrev pub FitsQuota : History → Type 0
   FitsQuota H = IsWithinQuota (refilled xs H)
 
   quota-before : (H g : History) → FitsQuota (H ++ g) → FitsQuota H
@@ -133,7 +133,7 @@ module _ (xs : ℕ → Payload) where
       → judge_by_role (tables_of H) call ≡ Ok drawn
   tabled H call drawn legal accepted = sym (Legal-judge H call legal) ∙ accepted
 
-  quota-room : MakesRoom xs FitsQuota
+  pub quota-room : MakesRoom xs FitsQuota
   quota-room = record {
     before = quota-before;
     room = λ H call drawn legal legal' allowed fits accepted.
@@ -141,7 +141,7 @@ module _ (xs : ℕ → Payload) where
         (sym ((Legal-told (refilled xs H) legal').own_bytes call.caller)) (tabled H call drawn legal accepted) fits;
   }
 
-  shorter-room : MakesRoom xs (NoneLonger xs)
+  pub shorter-room : MakesRoom xs (NoneLonger xs)
   shorter-room = record {
     before = none_longer-before xs;
     room = λ H call drawn legal legal' allowed fits accepted.

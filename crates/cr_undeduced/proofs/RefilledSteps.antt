@@ -130,7 +130,7 @@ tags-login : (on : Bool) (paper : Option ℕ) (tag : List ℕ) → command_wants
 tags-login true paper tag = refl
 tags-login false paper tag = refl
 
-same_login : (x : Payload) (command : Command)
+pub same_login : (x : Payload) (command : Command)
     → command_wants_login (fill_command x command) ≡ command_wants_login command
 same_login x (commands.Tag paper tag on) =
     tags-login x.on paper (retold tag x.tag) ∙ sym (tags-login on paper tag)

@@ -1,0 +1,45 @@
+-- AnotherRun: another run, in which a group of users ask and hear the same.
+use Rattle.std.specs.Prelude.{ℕ, Bool, ◌≡◌, List, [], ◌∷◌, ◌++◌, length, take, Option}
+use Rattle.std.specs.List.{list_any}
+use Rattle.cr_base.specs.declared.entry.Stamped.{Stamped}
+use Rattle.cr_base.specs.History.{History}
+use Rattle.cr_base.specs.Lists.{given, is_number}
+use Rattle.cr_policy.specs.Legal.{Legal}
+use Rattle.cr_undeduced.specs.Undeducible.{Look}
+use Rattle.cr_wire.specs.Caller.{caller}
+use Rattle.cr_session.specs.Told.{after_wish}
+use Rattle.cr_session.specs.TwoRuns.{WishInTurn, Run}
+use Rattle.cr_session.specs.Retries.{ends_in, AreBounded}
+use Rattle.cr_laws.specs.GroupRuns.{is_theirs, GroupHearsAlike}
+
+-- ---- another run
+
+-- the history that a run ends in
+abbrev pub end_of : Run → History
+end_of one = ends_in one.opening one.wishes
+
+-- There is another run, which a legal history opens, in which the group ask the same, at the same moments and in the
+-- same order, and hear the same bytes. It ends in this history, and opens with as much of that as the one opens with.
+pub record AnotherRun (group : List (Option ℕ)) (one : Run) (end : History) : Type 0 where
+  pub other : Run
+  pub legal : Legal other.opening
+  pub bounded : AreBounded other.wishes
+  pub as_long : length other.opening ≡ length one.opening
+  pub opening : other.opening ≡ take (length one.opening) end
+  pub ends : end_of other ≡ end
+  pub hears : GroupHearsAlike group one other
+
+-- ---- where the group look
+
+-- one of the group looks whenever she asks, at what stands before her request: from this history on
+abbrev pub looks_of : List (Option ℕ) → History → List WishInTurn → List Look
+looks_of group H [] = []
+looks_of group H (w ∷ ws) =
+    given (is_theirs group H w.wish) (record { who = caller H w.wish; upto = length H })
+    ++ looks_of group (after_wish H w.wish) ws
+
+-- ---- what they did
+
+-- one of the group made the entry
+abbrev pub is_made_by : List (Option ℕ) → Stamped → Bool
+is_made_by group e = list_any (λ u. is_number u e.stamp.maker) group
