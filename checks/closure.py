@@ -30,7 +30,14 @@ STEPS = (
     ),
     ("every answer from the caller's view", "Proved", {"crates/cr_session/src/laws.rt": ("law_two_runs",)}),
     ("whole runs, from bytes to bytes", "Proved", {"crates/cr_top/src/run.rt": ("top",)}),
-    ("what can't be ruled out", "Proved", {"crates/cr_undeduced/src/lib.rt": ("law_undeducible",)}),
+    (
+        "what can't be ruled out",
+        "Proved",
+        {
+            "crates/cr_undeduced/src/lib.rt": ("law_undeducible",),
+            "crates/cr_laws/src/lib.rt": ("law_undeducible_bytes",),
+        },
+    ),
     ("what a crash leaves", "Proved", {"crates/cr_journal/src/keeper.rt": ("law_stops",)}),
     (
         "what a disk does",

@@ -12,8 +12,9 @@ use Rattle.cr_policy.specs.Legal.{Legal}
 use Rattle.cr_policy.specs.View.{view}
 use Rattle.cr_undeduced.specs.Payload.{Payload, IsBoundedPayload, NoneLonger}
 use Rattle.cr_undeduced.specs.Undeducible.{Look, Looking, looking_at, seen_at, IsWithinQuota}
+use Rattle.cr_undeduced.proofs.Among.{among-contained}
 use Rattle.cr_undeduced.proofs.Fill.{refilled, behind, refilled-append, mixed_behind, others-filled}
-use Rattle.cr_undeduced.proofs.LooksLaws.{looks_alike, refilled-take}
+use Rattle.cr_undeduced.proofs.LooksLaws.{values_alike, refilled-take}
 use Rattle.cr_undeduced.proofs.RefilledLegal.{MakesRoom, FitsQuota, quota-room, shorter-room, leads-legal}
 use Rattle.cr_undeduced.proofs.RefilledTexts.{legal-texts, mixed_behind-bounded, mixed-shorter}
 use Rattle.cr_wire.specs.Caller.{caller}
@@ -147,7 +148,8 @@ module _ (group : List (Option ℕ)) (xs : ℕ → Payload) (one : Run) (legal :
   sees-alike : All Alike (looks_of group one.opening one.wishes)
   sees-alike =
       All-weaker (Contains (looks_of group one.opening one.wishes)) Alike
-      (λ look is. looks_alike (looks_of group one.opening one.wishes) xs (end_of one) look is
+      (λ look is. values_alike (looks_of group one.opening one.wishes) xs (end_of one) look
+      (among-contained look (looks_of group one.opening one.wishes) is)
       ∙ ap (λ (K : History). seen_at K look) is-filled)
       (looks_of group one.opening one.wishes) (All-contains_itself (looks_of group one.opening one.wishes))
 

@@ -1,6 +1,6 @@
 -- UndeducibleBytes: whatever a group of users ask, all that they hear could have come of a conference in which
 -- everything that they weren't shown was different. What they were shown is said in the words of the bounds, by
--- law_undeducible's other history; the runs are those of law_group_runs.
+-- the other values of law_undeducible; the runs are those of law_group_runs.
 use Rattle.std.specs.Prelude.{ℕ, ◌≡◌, suc, List, [], ◌∷◌, map, Option, IsTrue}
 use Rattle.std.specs.Prelude.{if◌then◌else◌}
 use Rattle.cr_base.specs.declared.entry.Entry.{Entry}
@@ -10,7 +10,7 @@ use Rattle.cr_base.specs.Drawn.{stamped}
 use Rattle.cr_base.specs.History.{History}
 use Rattle.cr_policy.specs.Legal.{Legal, unnumbered}
 use Rattle.cr_undeduced.specs.Payload.{Payload, IsBoundedPayload, Known, with_other, NoneLonger}
-use Rattle.cr_undeduced.specs.Undeducible.{otherwise, IsWithinQuota}
+use Rattle.cr_undeduced.specs.Undeducible.{with_values, IsWithinQuota}
 use Rattle.cr_session.specs.TwoRuns.{Run}
 use Rattle.cr_session.specs.Retries.{AreBounded}
 use Rattle.cr_laws.specs.AnotherRun.{looks_of, end_of, is_made_by, AnotherRun}
@@ -20,7 +20,7 @@ use Rattle.cr_laws.specs.AnotherRun.{looks_of, end_of, is_made_by, AnotherRun}
 -- the history that the run ends in, with these other values, one for each place, of all that none of the group was
 -- shown whenever she asked: of all of it at once, part by part
 abbrev pub end_otherwise : List (Option ℕ) → (ℕ → Payload) → Run → History
-end_otherwise group xs one = otherwise (looks_of group one.opening one.wishes) xs (end_of one)
+end_otherwise group xs one = with_values (looks_of group one.opening one.wishes) xs (end_of one)
 
 -- ---- what stays
 

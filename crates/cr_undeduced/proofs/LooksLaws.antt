@@ -116,7 +116,7 @@ module _ (looks : List Look) (xs : ℕ → Payload) (H : History) where
   abbrev ys : ℕ → Payload
   ys = mixed_behind all [] xs H
 
-  values_alike : (look : Look) → Among look looks → seen_at H look ≡ seen_at (with_values looks xs H) look
+  pub values_alike : (look : Look) → Among look looks → seen_at H look ≡ seen_at (with_values looks xs H) look
   values_alike look among =
       let stood : History = take look.upto H in
       let there : Among (looking_at H look) all = among-map (looking_at H) look looks among in
