@@ -24,8 +24,8 @@ from lib.places import TOP
 # The pages that are written by these rules.
 HELD = (
     "README.md", "CHANGELOG.md", "API.md", "ARCHITECTURE.md", "CHAIR.md", "CLAIMS.md", "CLAIMS_BY_CRATE.md",
-    "CLIENT.md", "COCON.md", "CONTRIBUTING.md", "DECISIONS.md", "EXTENDING.md", "PERFORMANCE.md", "RUNNING.md",
-    "STORE.md", "TOUR.md", "TRUST.md", "VIEWS.md",
+    "CLIENT.md", "COCON.md", "CONTRIBUTING.md", "DECISIONS.md", "EXTENDING.md", "PERFORMANCE.md", "PROVING.md",
+    "RUNNING.md", "STORE.md", "TOUR.md", "TRUST.md", "VIEWS.md",
 )  # fmt: skip
 MOST_WORDS = 30
 # Pages on which citing a theorem is claiming it.
