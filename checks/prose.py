@@ -2,9 +2,9 @@
 # SPDX-License-Identifier: Apache-2.0 OR MIT
 """Tries how the pages are written: short sentences, no words that this project avoids, a status on each claim.
 
-    python3 checks/prose.py [PAGE..]              the pages that are held to it (HELD) where none is named
-    python3 checks/prose.py --numbers [COMMIT]    the words of each page, held or not, and the average length of a
-                                                  sentence; of the pages of a commit, where one is named
+    python3 checks/prose.py [PAGE..]              these pages, such as docs/API.md; all where none is named
+    python3 checks/prose.py --numbers [COMMIT]    the words of each page, and the average length of a sentence; of the
+                                                  pages of a commit, where one is named
 
 A sentence has at most 30 words; what stands in code, in headings and in tables' heads isn't counted, and a cell of a
 table is a text of its own. The words of BANNED have a plainer one, which is told. A block or a row that cites a theorem
@@ -21,15 +21,9 @@ import sys
 from lib.pages import PAGES, blocks, plain, sentences, words
 from lib.places import TOP
 
-# The pages that are written by these rules.
-HELD = (
-    "README.md", "CHANGELOG.md", "API.md", "ARCHITECTURE.md", "CHAIR.md", "CLAIMS.md", "CLAIMS_BY_CRATE.md",
-    "CLIENT.md", "COCON.md", "CONTRIBUTING.md", "DECISIONS.md", "EXTENDING.md", "PERFORMANCE.md", "PROVING.md",
-    "RUNNING.md", "STORE.md", "TOUR.md", "TRUST.md", "VIEWS.md",
-)  # fmt: skip
 MOST_WORDS = 30
 # Pages on which citing a theorem is claiming it.
-CLAIMING = ("README.md", "TRUST.md", "CLAIMS.md", "CLAIMS_BY_CRATE.md")
+CLAIMING = ("README.md", "docs/TRUST.md", "docs/CLAIMS.md", "docs/CLAIMS_BY_CRATE.md")
 STATUS = re.compile(r"\b(Proved|Tested|Assumed)\b")
 # What isn't written, as an expression over a plain text, and what is.
 BANNED = (
@@ -65,7 +59,7 @@ def wrong_in(name, text):
                 found = re.search(expression, text)
                 if found:
                     wrong.append(f"{where}: \"{found.group().strip('.;:!? ')}\": write: {better}")
-        is_claim = name.split("/")[-1] in CLAIMING and block.kind != "heading" and "`law_" in block.text
+        is_claim = name in CLAIMING and block.kind != "heading" and "`law_" in block.text
         if is_claim and not STATUS.search(block.text):
             wrong.append(f"{where}: a claim without a status (Proved, Tested or Assumed)")
     return counts, in_tables, wrong
@@ -98,22 +92,20 @@ def numbers(pages):
 
 
 def main():
-    named = sys.argv[1:]
+    named, here = sys.argv[1:], {page.relative_to(TOP).as_posix(): page.read_text() for page in PAGES}
     if named[:1] == ["--numbers"]:
-        here = {page.relative_to(TOP).as_posix(): page.read_text() for page in PAGES}
         numbers(pages_of(named[1]) if named[1:] else here)
         return 0
-    pages = [page for page in PAGES if page.name in (named or HELD)]
-    if len(pages) != len(named or HELD):
-        sys.exit(f"no page of these names: {' '.join(sorted(set(named or HELD) - {page.name for page in pages}))}")
+    if not set(named) <= set(here):
+        sys.exit(f"no page of these names: {' '.join(sorted(set(named) - set(here)))}")
     read, wrong = 0, []
-    for page in pages:
-        counts, in_tables, more = wrong_in(page.relative_to(TOP).as_posix(), page.read_text())
+    for name in named or here:
+        counts, in_tables, more = wrong_in(name, here[name])
         read += len(counts) + len(in_tables)
         wrong += more
     if not named:
         wrong += wrong_in("docs/openapi.json", described((TOP / "docs/openapi.json").read_text()))[2]
-    print("\n".join([*wrong, f"{len(pages)} pages, {read} sentences, {len(wrong)} wrong"]))
+    print("\n".join([*wrong, f"{len(named or here)} pages, {read} sentences, {len(wrong)} wrong"]))
     return 1 if wrong else 0
 
 

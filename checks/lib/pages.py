@@ -1,12 +1,17 @@
 # SPDX-License-Identifier: Apache-2.0 OR MIT
-"""README.md and the pages of docs/, as checks read them: their lines outside code, and their blocks."""
+"""README.md, the pages of docs/ and that of checks/planted, as checks read them: their lines outside code, and their
+blocks."""
 
 import re
 from dataclasses import dataclass
 
 from .places import TOP
 
-PAGES = [TOP / "README.md", *sorted(TOP.glob("CHANGELOG.md")), *sorted((TOP / "docs").glob("*.md"))]
+PAGES = [
+    *(TOP / name for name in ("README.md", "CHANGELOG.md")),
+    *sorted((TOP / "docs").glob("*.md")),
+    TOP / "checks/planted/README.md",
+]
 ITEM = re.compile(r"\s*(?:[-*+]|\d+\.)\s+")
 
 

@@ -1,6 +1,10 @@
 # SPDX-License-Identifier: Apache-2.0 OR MIT
-"""Reads the rows of plants that stand beside this, and plants one. README.md here says the form."""
+"""Reads the rows of plants that stand beside this, and plants one. README.md here says the form.
+
+    python3 checks/planted/rows.py    prints how many there are of each kind and topic, and what that is about
+"""
 import glob
+import itertools
 import os
 import re
 from dataclasses import dataclass, field
@@ -120,3 +124,27 @@ def picked_of(rows, picked):
     exact = [row for row in rows if row.name in picked]
     return exact or [row for row in rows
                      if not picked or row.topic in picked or any(word in row.name for word in picked)]
+
+
+def about(kind, topic):
+    """What a topic is about: the first sentence of its file."""
+    with open(f"{HERE}/{kind}/{topic}.rows", encoding="utf-8") as file:
+        head = " ".join(line.lstrip("# ").strip() for line in itertools.takewhile(lambda at: at.startswith("#"), file))
+    return head.partition(". ")[0].rstrip(".:").removeprefix(f"{topic.capitalize()}: ")
+
+
+def counts():
+    """How many are planted, by kind, and of the kinds with rows by topic."""
+    of = lambda pattern: len(glob.glob(f"{TOP}/{pattern}", recursive=True))
+    for kind, script in (("tables", "wrong_tables.py"), ("rules", "wrong_rules.py"), ("laws", "wrong_laws.py")):
+        rows = read(kind)
+        print(f"{kind}, by checks/{script}: {len(rows)}")
+        for topic in sorted({row.topic for row in rows}):
+            print(f"    {sum(row.topic == topic for row in rows):4} {topic}: {about(kind, topic)}")
+    print(f"bodies, by the gate (crates/*/must-fail): {of('crates/*/must-fail/*.edit')}")
+    print(f"bodies, by checks/wrong_bodies.sh: {of('checks/wrong_bodies/**/*.edit')}")
+    print(f"edges, by checks/wrong_edges.sh: {of('checks/wrong_edges/*.edit')}")
+
+
+if __name__ == "__main__":
+    counts()
