@@ -8,7 +8,8 @@
 What was measured anew is written into bench/data by hand, from what a script of bench/ printed:
 
     figures.csv    all figures, a line each: script, what, measured, goal, met (yes or no), date, beside (other work or
-                   nothing); a line without a goal isn't in the page's table
+                   nothing), shown (yes, if the page is to have it though the goal is met); a line without a goal isn't
+                   in the page's tables
     serving.csv    requests a second by connections
     growth.csv     µs a command by how many entries there are
     stores.csv     a journal beside a database
@@ -143,13 +144,18 @@ def gate():
 
 
 def goals():
-    """The table of goals: a line for each figure that has one."""
+    """What the page has of goals: how many are met, by script, and a line for each that isn't, or that is to be shown."""
+    found = [row for row in rows("figures.csv") if row["goal"]]
     table = ["|what|measured|goal|met|script, day|", "|---|---|---|---|---|"]
-    for row in rows("figures.csv"):
-        if row["goal"]:
+    for row in found:
+        if row["met"] != "yes" or row["shown"]:
             met = {"yes": "yes", "no": "**no**"}.get(row["met"], "not measured")
             by = f"`bench/{row['script']}`, {row['date']}"
             table.append("|" + "|".join((row["what"], row["measured"], row["goal"], met, by)) + "|")
+    counts = {name: [row["met"] for row in found if row["script"] == name] for name in {row["script"] for row in found}}
+    table += ["", "|goals of|met|of|", "|---|---|---|"]
+    table += [f"|`bench/{name}`|{met.count('yes')}|{len(met)}|" for name, met in sorted(counts.items())]
+    table.append(f"|all|{sum(row['met'] == 'yes' for row in found)}|{len(found)}|")
     return "\n".join([*table, ""])
 
 
