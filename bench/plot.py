@@ -144,7 +144,7 @@ def gate():
 
 
 def goals():
-    """What the page has of goals: how many are met, by script, and a line for each that isn't, or that is to be shown."""
+    """What the page has of goals: a line for each that is missed or to be shown, and how many are met, by script."""
     found = [row for row in rows("figures.csv") if row["goal"]]
     table = ["|what|measured|goal|met|script, day|", "|---|---|---|---|---|"]
     for row in found:
