@@ -34,8 +34,8 @@ STEPS = (
         "what can't be ruled out",
         "Proved",
         {
-            "crates/cr_undeduced/src/lib.rt": ("law_undeducible",),
-            "crates/cr_laws/src/lib.rt": ("law_undeducible_bytes",),
+            "crates/cr_undeduced/src/lib.rt": ("law_undeducible", "law_makers", "law_twins"),
+            "crates/cr_laws/src/lib.rt": ("law_undeducible_bytes", "law_twins_bytes"),
         },
     ),
     ("what a crash leaves", "Proved", {"crates/cr_journal/src/keeper.rt": ("law_stops",)}),
