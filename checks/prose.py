@@ -49,6 +49,8 @@ def wrong_in(name, text):
     counts, in_tables, wrong = [], [], []
     for block in blocks(text):
         where = f"{name}:{block.line}"
+        if block.torn:
+            wrong.append(f"{where}: a list begins in a paragraph's next line: was it a number that a line began with?")
         for text in map(plain, block.cells or (block.text,)):
             for sentence in sentences(text) if block.kind in ("paragraph", "item", "row") else ():
                 count = len(words(sentence))

@@ -28,13 +28,14 @@ def prose(text):
 @dataclass
 class Block:
     """A paragraph, an item of a list, a heading, or a row of a table: where it begins, what it is, and its text, of a
-    row its cells. A row knows the cells of its table's head."""
+    row its cells. A row knows the cells of its table's head; an item whether a paragraph ends in the line before it."""
 
     line: int
     kind: str
     text: str = ""
     cells: tuple = ()
     head: tuple = ()
+    torn: bool = False
 
 
 def cells_of(line):
@@ -66,7 +67,9 @@ def blocks(text):
             open_block = None
         elif open_block is None or ITEM.match(line):
             mark = ITEM.match(line)
-            open_block = Block(number, "item", line[mark.end() :]) if mark else Block(number, "paragraph", line)
+            torn = bool(mark and open_block and open_block.kind == "paragraph")
+            kind, rest = ("item", line[mark.end() :]) if mark else ("paragraph", line)
+            open_block = Block(number, kind, rest, torn=torn)
             found.append(open_block)
         else:
             open_block.text += " " + line.strip().removeprefix("> ")
