@@ -120,7 +120,7 @@ AT_PAPERS = ("SetConflict", "Bid", "Assign", "Unassign", "Review", "Comment", "T
 
 
 def in_place(step, paper, pair):
-    """The step with the two users in each other's place, as who does it and as who is named, where it is at the paper."""
+    """The step with the two users in each other's place, as who does it and whom it names, where it is at the paper."""
     user, (kind, *parts) = step
     if kind not in AT_PAPERS or parts[0] != some(paper):
         return step
