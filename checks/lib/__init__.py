@@ -1,5 +1,5 @@
 # SPDX-License-Identifier: Apache-2.0 OR MIT
-"""What several scripts of checks/ and bench/ share. bench/lib is a link to this folder.
+"""What several scripts of checks/ and bench/ share: bench/lib gives these modules to bench/.
 
 How checks are run: `checking`. The program: `places`, `program`, `server`, `wire`, `timing`. What it keeps: `database`,
 `journal_file`. What it is asked: `cases`, `conference`, `drill`, `planned`. What is due: the small model (`model`,

@@ -3,6 +3,5 @@
 
 from pathlib import Path
 
-# Not resolved: bench/lib is a link to this folder, and leads to the same top.
-TOP = Path(__file__).absolute().parent.parent.parent
+TOP = Path(__file__).resolve().parents[2]
 CONFD = TOP / "crates/confd/out/confd"
