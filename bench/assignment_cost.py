@@ -4,11 +4,11 @@
 
     python3 bench/assignment_cost.py [PROGRAM] [PAGES]
 
-PROGRAM is `confd` as `rt run` builds it (crates/confd/out/confd where none is named). Python 3 alone is needed. The
-large conference has 9,999 papers by 500 authors, 500 members, 5,000 bids and 5,000 assignments; the small one a paper,
-two members, their bids and their assignments. Each figure is one run of `confd pipe` over requests made here, of which
-a run without what is measured is taken off; the least of five. Beside it SQLite, in memory and through Python's module,
-is asked the same of tables with the same rows and an index for each question. Nothing is kept.
+PROGRAM is `confd` as `rt run` builds it (crates/confd/out/confd if none is named). Needs only Python 3. The large
+conference has 9,999 papers by 500 authors, 500 members, 5,000 bids and 5,000 assignments. The small one has a paper,
+two members, their bids and their assignments. Each figure is one run of `confd pipe` over requests made here, less a
+run without what is measured; the least of five. The peer is SQLite, in memory and through Python's module: it answers
+the same from tables with the same rows and an index for each question. Nothing is kept.
 """
 
 import json

@@ -4,13 +4,12 @@
 
     python3 bench/content_cost.py [PROGRAM] [FOLDER]
 
-PROGRAM is `confd` as `rt run` builds it (crates/confd/out/confd where none is named), FOLDER where the files are made
-(the system's folder for such where none is named; it decides which disk is measured, and has to have 5 GB free).
-Debian's packages nginx-light and wrk are needed. The peer of downloads is nginx with one worker, which gives the same
-bytes from a file.
+PROGRAM is `confd` as `rt run` builds it (crates/confd/out/confd if none is named). FOLDER is where the files are made,
+by default the system's folder for such. It decides which disk is measured, and has to have 5 GB free. Needs Debian's
+packages nginx-light and wrk. The peer of downloads is nginx with one worker, which sends the same bytes from a file.
 
-The goals: downloads at least half as fast as the peer's; memory at most 1.25 times the bytes of 400 uploads without a
-store, 1.5 times with one, and 2.25 times where that store is opened, in at most 15 seconds.
+The goals: downloads at least half as fast as the peer's. For 400 uploads, memory at most 1.25 times their bytes without
+a store, and 1.5 times with one. To open that store, at most 2.25 times, and 15 seconds.
 """
 
 import os

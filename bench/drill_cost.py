@@ -4,9 +4,9 @@
 
     python3 bench/drill_cost.py [PROGRAM]
 
-PROGRAM is `confd` as `rt run` builds it (crates/confd/out/confd where none is named). Python 3 alone is needed. Each
-figure is the least of three runs. Beside it stands the small model of `checks/`, which reads each rule off the list of
-entries. Nothing is kept.
+PROGRAM is `confd` as `rt run` builds it (crates/confd/out/confd if none is named). Needs only Python 3. Each figure is
+the least of three runs. The peer is the small model of `checks/`, which reads each rule off the list of entries.
+Nothing is kept.
 """
 
 import resource

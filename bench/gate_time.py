@@ -1,16 +1,16 @@
 #!/usr/bin/env python3
 # SPDX-License-Identifier: Apache-2.0 OR MIT
-"""Measures what the gate costs: runs a command such as `rt ci` and adds up the processor time of all that it starts,
-crate by crate, in five parts: the crates' own proofs, their tests, the edits that have to be refused, what makes the
-programs (Rattle's back end, clang and Rattle's own compiler, linking), and running them and the tests. Prints a table
-in Markdown.
+"""Measures what the gate costs. It runs a command such as `rt ci`, and adds up the processor time of all that it
+starts, crate by crate, in five parts. These are the crates' own proofs; their tests; the edits that have to be refused;
+builds of the programs; and running them and the tests. A build is Rattle's back end, clang and Rattle's own compiler,
+and linking. Prints a table in Markdown.
 
     bench/gate_time.py rt ci               from nothing, as `rt ci --anew` where the kit keeps what passed
     bench/gate_time.py --pid 1234          joins a run that is under way
 
-The sum of all is exact: the kernel adds a process's time to its parent's when it ends. Whose it is, is looked up in
-/proc every quarter of a second; what ran between the last look at a process and its end has a line of its own. Where
-the script is stopped (SIGTERM, or Control-C) it prints what it saw by then.
+The sum of all is exact: the kernel adds a process's time to its parent's when it ends. Its crate is looked up in /proc
+every quarter of a second. What ran between the last look at a process and its end has a line of its own. If the script
+is stopped (SIGTERM, or Control-C) it prints what it saw by then.
 """
 import ctypes
 import os

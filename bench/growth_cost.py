@@ -4,9 +4,9 @@
 
     python3 bench/growth_cost.py [PROGRAM] [--before OTHER] [--parts commands,stores,memory] [--tenth] [--runs N]
 
-PROGRAM is `confd` as `rt run` builds it (crates/confd/out/confd where none is named), OTHER one to stand beside it.
-Python 3 alone is needed. There are 9,999 papers by 500 authors, and 500 members; what is added comes at random papers,
-in each run at the same. `--tenth` takes a tenth of all but the people, for a first look. Nothing is kept.
+PROGRAM is `confd` as `rt run` builds it (crates/confd/out/confd if none is named), OTHER one to compare it with. Needs
+only Python 3. There are 9,999 papers by 500 authors, and 500 members. What is added comes at random papers, the same in
+each run. `--tenth` takes a tenth of all except the people, for a first look. Nothing is kept.
 
 - commands: one more bid, comment and tag where 10,000, 40,000 and 160,000 are there, by `confd pipe` without a store.
   Beside it SQLite, in memory and through Python's module, takes the same rows into a table with a key, in one

@@ -1,13 +1,13 @@
 #!/usr/bin/env python3
 # SPDX-License-Identifier: Apache-2.0 OR MIT
-"""Counts the processor instructions that requests take, by valgrind's callgrind: the same of the same program and input
-whatever else the machine is doing, so that two builds can be compared while provers run.
+"""Counts the processor instructions that requests take, by valgrind's callgrind. They are the same for the same program
+and input whatever else the machine is doing, so two builds can be compared while provers run.
 
     bench/instructions.py PROGRAM [OTHER]
 
-`confd pipe` over a small conference of 200 papers in the bidding: a page to a chair, a bid, a search and a bulk of a
-hundred rows, each by what a run with so many of them takes more than one without; and the opening of a store with 2,000
-bids. Needs Debian's valgrind.
+`confd pipe` runs over a small conference of 200 papers in the bidding. Measured are a page to a chair, a bid, a search
+and a bulk of a hundred rows. Each is what a run with so many of them takes more than one without. Then comes the
+opening of a store with 2,000 bids. Needs Debian's valgrind.
 """
 import os
 import re

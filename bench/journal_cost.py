@@ -4,12 +4,12 @@
 
     python3 bench/journal_cost.py [--rows N] [--commits N] [--turns N] [PROGRAM] [FOLDER]
 
-PROGRAM is `confd` as `rt run` builds it (crates/confd/out/confd where none is named), FOLDER where the files are made
-(the system's folder for such where none is named; it decides which disk is measured, and should be none in memory).
-Python 3 alone is needed. A million rows and two thousand commits, where it isn't said. Both stores are measured in
-turn, N times (5), and the median is told: one registration after another over `confd pipe`, without what opening the
-store takes; and the processor time of a run on no input, of the same rows. The goals are half as many commits as the
-database's, and twice as fast an opening.
+PROGRAM is `confd` as `rt run` builds it (crates/confd/out/confd if none is named). FOLDER is where the files are made,
+by default the system's folder for such. It decides which disk is measured, and should be none in memory. Needs only
+Python 3. There are a million rows and two thousand commits, if no other numbers are given. Both stores are measured in
+turn, N times (5), and the median is printed. Measured are one registration after another over `confd pipe`, without
+what opening the store takes, and the processor time of a run on no input, of the same rows. The goals are half as many
+commits as the database's, and twice as fast an opening.
 """
 
 import argparse

@@ -5,9 +5,9 @@
     python3 bench/page_cost.py [PROGRAM] [PAGES]
     python3 bench/page_cost.py --before OTHER [PROGRAM] [PAGES]
 
-PROGRAM is `confd` as `rt run` builds it (crates/confd/out/confd where none is named). Python 3 alone
-is needed. Each figure is one run of `confd pipe` over requests made here, of which a run without what is
-measured is taken off; the least of five counts. Nothing is kept.
+PROGRAM is `confd` as `rt run` builds it (crates/confd/out/confd if none is named). Needs only Python 3. Each figure is
+one run of `confd pipe` over requests made here, less a run without what is measured; the least of five counts. Nothing
+is kept.
 
 With --before it only compares two builds, in one run: they take turns, nine each, and what a page costs is told
 as the median of the nine.

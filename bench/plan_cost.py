@@ -4,15 +4,15 @@
 
     /usr/bin/python3 bench/plan_cost.py [PROGRAM]      crates/confd/out/confd where none is named
 
-For each conference at the greatest sizes, up to 512 places and 4,096 papers times members, the same requests are piped
-with no GET /plan at their end, and with twenty; a twentieth of the difference is a plan, with the answer and all. Told
-are milliseconds of the processor, the least of three runs, so that what else the machine does counts little. With one
-place a paper the problem is scipy's `linear_sum_assignment` with the members written out `load` times, whose time
-stands beside it (Debian's python3-scipy, which Debian's own python3 finds; left out where it isn't there). scipy tells
-a plan of the greatest sum, not the first of them.
+The conferences have the greatest sizes, up to 512 places and 4,096 papers times members. For each the same requests are
+piped with no GET /plan at their end, and with twenty. A twentieth of the difference is a plan, with the answer and all.
+Printed are milliseconds of the processor, the least of three runs, so what else the machine does counts little. With
+one place a paper the problem is scipy's `linear_sum_assignment` with the members written out `load` times. Its time is
+printed too, if Debian's own python3 finds Debian's python3-scipy. scipy gives a plan of the greatest sum, not the first
+of them.
 
-The bids: at random; all equal; the same of all members for a paper, or of a member for all papers; some patterns; and
-few, one in twelve, the others none.
+The bids: at random; all equal; the same of all members for a paper, or of a member for all papers; some patterns. Last
+come few bids, one in twelve, the others none.
 """
 
 import random

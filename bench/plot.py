@@ -16,7 +16,7 @@ What was measured anew is written into bench/data by hand, from what a script of
     gate.csv       processor minutes of the gate, by crate
     openings.csv, retries.csv, plans.csv, assignments.csv    what else the scripts printed
 
-Python 3 alone is needed. Ends with status 0 where all are up to date.
+Needs only Python 3. Ends with status 0 if all are up to date.
 """
 
 import csv

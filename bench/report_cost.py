@@ -4,11 +4,11 @@
 
     python3 bench/report_cost.py [PROGRAM]
 
-PROGRAM is `confd` as `rt run` builds it (crates/confd/out/confd where none is named). Python 3 alone is needed. The
-conference has 9,999 papers by 500 authors, 500 members and 5,000 assignments, each with a form. Each figure is one run
-of `confd pipe` over requests made here, of which a run without what is measured is taken off; the least of three.
-Beside it SQLite, in memory and through Python's module, makes lines with the same numbers from tables with the same
-rows, and takes the same bulk in one transaction. Nothing is kept.
+PROGRAM is `confd` as `rt run` builds it (crates/confd/out/confd if none is named). Needs only Python 3. The conference
+has 9,999 papers by 500 authors, 500 members and 5,000 assignments, each with a form. Each figure is one run of `confd
+pipe` over requests made here, less a run without what is measured; the least of three. The peer is SQLite, in memory
+and through Python's module. It makes lines with the same numbers from tables with the same rows, and takes the same
+bulk in one transaction. Nothing is kept.
 """
 
 import sqlite3

@@ -4,13 +4,13 @@
 
     python3 bench/retries_cost.py [PROGRAM] [--before OTHER] [--tenth] [--runs N]
 
-PROGRAM is `confd` as `rt run` builds it (crates/confd/out/confd where none is named), OTHER one to stand beside it
-where no number is sent. Python 3 alone is needed. By `confd pipe` without a store, over 9,999 papers and 500 members:
+PROGRAM is `confd` as `rt run` builds it (crates/confd/out/confd if none is named), OTHER one to compare it with where
+no number is sent. Needs only Python 3. By `confd pipe` without a store, over 9,999 papers and 500 members:
 
-- bids at random papers where 0, 10,000 and 200,000 numbers are kept: without a number; the same bids, each by a new
-  number; those again, which are looked up and not judged; and another bid by each of their numbers, which is refused.
-  The goal: with 200,000 numbers each costs at most 1.3 times what it does with none.
-- uploads of 4 MiB without a number, by a new one, and again. Beside them the digest of as many bytes by Python's
+- bids at random papers while 0, 10,000 and 200,000 numbers are kept. First without a number; then the same bids, each
+  by a new number. Then those come again, which are looked up and not judged, and another bid by each of their numbers,
+  which is refused. The goal: with 200,000 numbers each costs at most 1.3 times what it does with none.
+- uploads of 4 MiB without a number, by a new one, and again. The peer is the digest of as many bytes by Python's
   `hashlib`.
 
 Times are processor time, the kernel's for the program among it; each is the least of three runs, or N. Nothing is kept.

@@ -4,9 +4,9 @@
 
     python3 bench/search_cost.py [PROGRAM]
 
-PROGRAM is `confd` as `rt run` builds it (crates/confd/out/confd where none is named). Python 3 alone is needed. Each
-figure is one run of `confd pipe` over requests made here, of which a run without what is measured is taken off; the
-least of three. Beside it stands Python's `sqlite3` (its LIKE, over the same abstracts in memory). Nothing is kept.
+PROGRAM is `confd` as `rt run` builds it (crates/confd/out/confd if none is named). Needs only Python 3. Each figure is
+one run of `confd pipe` over requests made here, less a run without what is measured; the least of three. The peer is
+Python's `sqlite3` (its LIKE, over the same abstracts in memory). Nothing is kept.
 """
 
 import sqlite3

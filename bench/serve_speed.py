@@ -5,12 +5,12 @@
     python3 bench/serve_speed.py [--turns N] [--seconds S] [--connections C,..] [--requests R]
                                  [--before OTHER] [PROGRAM] [FOLDER]
 
-PROGRAM is `confd` as `rt run` builds it (crates/confd/out/confd where none is named), OTHER an earlier one to be
-measured in the same run, FOLDER where the stores are made (the system's folder for such where none is named; it decides
-which disk is measured). Debian's packages nginx-light, wrk, python3-flask and gunicorn are needed. The peers: nginx
-with one worker, which gives the same bytes from memory; a small Flask application over a database of SQLite's in WAL
-mode, under gunicorn with two processes of four threads; and, for what is kept, SQLite's own commits with the setting
-that confd uses. All loads keep their connections alive; all talk on loopback.
+PROGRAM is `confd` as `rt run` builds it (crates/confd/out/confd if none is named), OTHER an earlier one to be measured
+in the same run. FOLDER is where the stores are made, by default the system's folder for such; it decides which disk is
+measured. Needs Debian's packages nginx-light, wrk, python3-flask and gunicorn. One peer is nginx with one worker, which
+sends the same bytes from memory. Another is a small Flask application over a database of SQLite's in WAL mode, under
+gunicorn with two processes of four threads. For what is kept the peer is SQLite's own commits with the setting that
+confd uses. All loads keep their connections alive; all talk on loopback.
 
 Every load, on each number C of connections (1,4,16,64), is tried N times (5) for S seconds (2) on each server in turn,
 and its figure is the median. At the end R requests (a million) are made on 64 connections, and the slowest of them is

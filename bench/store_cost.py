@@ -4,10 +4,10 @@
 
     python3 bench/store_cost.py [PROGRAM] [FOLDER]
 
-PROGRAM is `confd` as `rt run` builds it (crates/confd/out/confd where none is named), FOLDER where the files are made
-(the system's folder for such where none is named; it decides which disk is measured). Python 3 alone is needed, with
-its module `sqlite3`, which is the peer: the same rows read by it, and as many transactions of one such row with the
-same settings. The goals are ten seconds for the opening, and half as many commits as the peer's.
+PROGRAM is `confd` as `rt run` builds it (crates/confd/out/confd if none is named). FOLDER is where the files are made,
+by default the system's folder for such; it decides which disk is measured. Needs only Python 3. The peer is its module
+`sqlite3`: the same rows read by it, and as many transactions of one such row with the same settings. The goals are ten
+seconds for the opening, and half as many commits as the peer's.
 """
 
 import contextlib

@@ -7,7 +7,7 @@
     python3 checks/closure.py --idle     lists what the files of the block define that no theorem of it names
 
 The specs are read as text (lib/specs.py). Lines are counted without imports, comments and blank lines. Ends with status
-0 where the block is as due. Python 3 alone is needed. Takes a few seconds.
+0 if the block is as due. Needs only Python 3. Takes a few seconds.
 """
 
 import re

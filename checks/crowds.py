@@ -1,6 +1,6 @@
 #!/usr/bin/env python3
 # SPDX-License-Identifier: Apache-2.0 OR MIT
-"""Tries `confd serve` where more clients come than it has workers: whoever asks nothing gives way, and nobody else.
+"""Tries `confd serve` with more clients than it has workers: an idle one gives way, and no other.
 
     python3 checks/crowds.py [CHECK..] [PROGRAM]
 

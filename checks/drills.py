@@ -5,8 +5,8 @@
     checks/drills.py [PROGRAM]        crates/confd/out/confd where none is named
 
 A drill makes up commands from a number. Here the numbers and the commands are made anew, by docs/API.md, and given to
-`model.py`, which knows no tables; the four lines have to be those that `confd drill` prints, for several seeds and
-lengths, and a drill that is run twice has to print the same bytes. Ends with status 0 where all of it is so.
+`model.py`, which knows no tables. For several seeds and lengths `confd drill` has to print the four lines that come so.
+A drill that is run twice has to print the same bytes. Ends with status 0 if all of it is so.
 """
 import subprocess
 import sys

@@ -5,10 +5,10 @@ growth, addresses.
 
     python3 checks/edge.py [CHECK..] [PROGRAM]
 
-PROGRAM is `confd` as `rt run` builds it (crates/confd/out/confd where none is named); CHECK is a name out of CHECKS,
-all where none is told. Needs Python 3, and `cc` for checks/lib/shim.c, which makes time run faster, cuts reads and
-writes short and counts them; without a `cc` it ends well with a line that says so. Prints a line a check, and last
-`N passed, M failed`; ends with status 0 where none failed. Takes about half a minute.
+PROGRAM is `confd` as `rt run` builds it (crates/confd/out/confd if none is named); CHECK is a name out of CHECKS, all
+if none is named. Needs Python 3, and `cc` for checks/lib/shim.c, which makes time run faster, and cuts reads and writes
+short and counts them. Without a `cc` it ends well with a line that says so. Prints a line a check, and last `N passed,
+M failed`; ends with status 0 if none failed. Takes about half a minute.
 """
 
 import contextlib

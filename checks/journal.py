@@ -5,11 +5,11 @@ in each copy too.
 
     python3 checks/journal.py [CHECK..] [PROGRAM]
 
-PROGRAM is `confd` as `rt run` builds it (crates/confd/out/confd where none is named); CHECK is a name out of CHECKS or
-CHECKS_BY_SHIM, all where none is told. Python 3 alone is needed, and `cc` for the checks that refuse calls of the
-system (shim.py), which are left out where it is missing. What a file has is read by `journal_file.py`, which knows the
-format from docs/STORE.md and judges rows on the small model. Prints a line a check, and last `N passed, M failed`; ends
-with status 0 where none failed. Takes about a minute.
+PROGRAM is `confd` as `rt run` builds it (crates/confd/out/confd if none is named). CHECK is a name out of CHECKS or
+CHECKS_BY_SHIM, all if none is named. Needs only Python 3, and `cc` for the checks that refuse calls of the system
+(shim.py), which are left out if it is missing. What a file has is read by `journal_file.py`, which knows the format
+from docs/STORE.md and judges rows on the small model. Prints a line a check, and last `N passed, M failed`; ends with
+status 0 if none failed. Takes about a minute.
 """
 
 import concurrent.futures

@@ -4,13 +4,13 @@
 
     python3 checks/links.py
 
-Each link leads to a file and a heading that are there; each path in backticks stands in the repository; each crate
-named is there, and the table in docs/ARCHITECTURE.md has each of crates.txt; each name of code in backticks stands in a
-source file, and in docs/CLAIMS_BY_CRATE.md in one of a crate that its section names, where each clause in parentheses
-is one of the function before it, or stands in what its contract cites; the table of errors in docs/API.md has exactly
-the names that cr_print prints; each decision that is cited is there; prose stays under 100 columns, and under 48,500
-words on all pages, what programs print not counted. Python 3 alone is needed. Prints a line for each thing that isn't
-so, and last `N cited, M wrong`; ends with status 0 where none is wrong. Takes some ten seconds.
+Each link leads to a file and a heading that are there. Each path in backticks is in the repository. Each crate named is
+there, and the table in docs/ARCHITECTURE.md has each of crates.txt. Each name of code in backticks is in a source file;
+in docs/CLAIMS_BY_CRATE.md in one of a crate that its section names. There each clause in parentheses is one of the
+function before it, or in what its contract cites. The table of errors in docs/API.md has exactly the names that
+cr_print prints. Each decision that is cited is there. Prose stays under 100 columns, and under 48,500 words on all
+pages, without what programs print. Needs only Python 3. Prints a line for each thing that isn't so, and last `N cited,
+M wrong`; ends with status 0 if none is wrong. Takes some ten seconds.
 """
 
 import fnmatch

@@ -1,6 +1,6 @@
 #!/usr/bin/env python3
 # SPDX-License-Identifier: Apache-2.0 OR MIT
-"""Opens stores of older versions: their rows then stand in this one, whatever happens meanwhile.
+"""Opens stores of older versions: then their rows are in this one, whatever happens meanwhile.
 
 Version 1 kept no moments, and neither it nor version 2 the numbers of commands.
 

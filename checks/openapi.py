@@ -7,9 +7,9 @@
 
 The document has to be valid by OpenAPI 3.1 and by JSON Schema 2020-12, with every reference led somewhere, and the
 names of errors in one order. Each request that is answered 2xx or by a rule has to fit it, by path, method, login,
-parameters and body, and one that is refused for its body, its number or its query string has not to, but for searches
-and times, whose grammars no schema tells; each answer has to fit it, by status, fields, type and content. What comes
-has to be declared; where all files are read, each status and each error that is declared has to come, and each
+parameters and body. One that is refused for its body, its number or its query string has not to fit, except for
+searches and times, whose grammars no schema tells. Each answer has to fit it, by status, fields, type and content. What
+comes has to be declared. If all files are read, each status and each error that is declared has to come, and each
 example.
 
 Needs python3-jsonschema (Debian), in the python that runs this or in /usr/bin/python3; where neither has it, it says

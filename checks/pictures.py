@@ -10,9 +10,9 @@
     request.svg       a request's way
     phases.svg        which reader sees what, and when: computed of the small conference, whose views are proved
 
-The first is a graph, laid out by graphviz's `dot` (Debian's package graphviz, for --write alone): a digest of the
-graph's text stands in its first line, which is what is compared. Python 3 alone is needed to compare; it takes a few
-seconds. Ends with status 0 where all are up to date.
+The first is a graph, laid out by graphviz's `dot` (Debian's package graphviz), which only --write needs. A digest of
+the graph's text is in its first line, and is what is compared. To compare needs only Python 3, and takes a few seconds.
+Ends with status 0 if all are up to date.
 """
 
 import hashlib

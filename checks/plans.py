@@ -4,12 +4,12 @@
 
     python3 checks/plans.py [PLANS [PROGRAM]]     10,000 small plans of crates/confd/out/confd where none are named
 
-Small conferences have two or three papers and three or four members, with bids, conflicts, reviewers, labels that are
-spent and papers that are withdrawn, all made up from a number; each answer has to be the one of the greatest sum that
-is first in order, and `no_plan` exactly where none is. Middling ones are the plan that another way finds
-(best_plans.py), and large ones have the sum that scipy finds (Debian's python3-scipy, so /usr/bin/python3; left out
-where it isn't there). The sizes at both limits are asked for. Every plan is posted to /assign, which has to take it
-whole. Prints a line a check, and last `N passed, M failed`; ends with status 0 where none failed. Takes some minutes.
+Small conferences have two or three papers and three or four members, all made up from a number. They have bids,
+conflicts, reviewers, labels that are spent and papers that are withdrawn. Each answer has to be the one of the greatest
+sum that is first in order, and `no_plan` exactly if there is none. Middling ones are the plan that another way finds
+(best_plans.py). Large ones have the sum that scipy finds (Debian's python3-scipy, so /usr/bin/python3; left out if it
+isn't there). The sizes at both limits are tried. Every plan is posted to /assign, which has to take it whole. Prints a
+line a check, and last `N passed, M failed`; ends with status 0 if none failed. Takes some minutes.
 """
 
 import random

@@ -6,13 +6,14 @@
     python3 checks/prose.py --numbers [COMMIT]    the words of each page, and the average length of a sentence; of the
                                                   pages of a commit, where one is named
 
-A sentence has at most 30 words; what stands in code, in headings and in tables' heads isn't counted, and a cell of a
-table is a text of its own. The words of BANNED have a plainer one, which is told. A block or a row that cites a theorem
-(`law_..`) as a claim says that it is Proved, Tested or Assumed. Prints a line for each thing that isn't so, and last
-how many sentences were read; ends with status 0 where none is wrong. The descriptions of docs/openapi.json are tried
-too. Python 3 alone is needed.
+A sentence has at most 30 words. What is in code, in headings and in tables' heads isn't counted, and a cell of a table
+is a text of its own. The words of BANNED have a plainer one, which is printed. A block or a row that cites a theorem
+(`law_..`) as a claim says that it is Proved, Tested or Assumed. The descriptions of docs/openapi.json and the heads of
+scripts are tried too. Prints a line for each thing that isn't so, and last how many sentences were read; ends with
+status 0 if none is wrong. Needs only Python 3.
 """
 
+import ast
 import json
 import re
 import subprocess
@@ -21,6 +22,7 @@ import sys
 from lib.pages import PAGES, blocks, plain, sentences, words
 from lib.places import TOP
 
+SCRIPTS = ("bench/*.py", "checks/*.py", "checks/lib/*.py", "checks/planted/*.py", "deploy/*.py")
 MOST_WORDS = 30
 # Pages on which citing a theorem is claiming it.
 CLAIMING = ("README.md", "docs/TRUST.md", "docs/CLAIMS.md", "docs/CLAIMS_BY_CRATE.md")
@@ -74,6 +76,12 @@ def described(text):
     return "\n".join(line and f"- {line}" for line in lines)
 
 
+def head(script):
+    """What the head of a script says, in its lines, without examples of how to call it."""
+    lines = (ast.get_docstring(ast.parse(script.read_text()), clean=False) or "").split("\n")
+    return "\n" * 2 + "\n".join("" if line.startswith("    ") else line for line in lines)
+
+
 def pages_of(commit):
     """The pages of a commit, by their names, with their texts."""
     git = lambda *words: subprocess.run(["git", *words], cwd=TOP, capture_output=True, check=True).stdout.decode()
@@ -107,6 +115,8 @@ def main():
         wrong += more
     if not named:
         wrong += wrong_in("docs/openapi.json", described((TOP / "docs/openapi.json").read_text()))[2]
+        for script in sorted(path for place in SCRIPTS for path in TOP.glob(place)):
+            wrong += wrong_in(script.relative_to(TOP).as_posix(), head(script))[2]
     print("\n".join([*wrong, f"{len(named or here)} pages, {read} sentences, {len(wrong)} wrong"]))
     return 1 if wrong else 0
 

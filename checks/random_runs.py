@@ -4,15 +4,15 @@
 
     checks/random_runs.py [RUNS] [SEED]        20 runs from seed 1 where none are given
 
-Each run makes up a conference of nine users from its seed and asks a few hundred requests of `confd pipe` with a store:
-every command and query by every kind of caller, in and out of its phase, most of them refused, many by numbers, and
-some of these again. Each answer, and then what `confd view` prints for each user, has to be what `model.py` gives,
-which is written from the pages of docs/ and knows no tables.
-The clock stands, by the shim of `shim.c`, and is turned now and then, to the second of a deadline, one behind it and
-one ahead of it: the store is opened again then. Where there is no `cc` to build the shim with, or the program doesn't
-meet it, the clock is the system's, and deadlines are days from it. An entry's moment has to be the date of the answer
-by which its command was accepted, and each date the clock's.
-Ends with status 0 where all of it is, and else tells the seed, the request, what came and what was due.
+Each run makes up a conference of nine users from its seed and sends a few hundred requests to `confd pipe` with a
+store. They are every command and query by every kind of caller, in and out of its phase, most of them refused. Many
+have numbers, and some of these come again. Each answer, and then what `confd view` prints for each user, has to be what
+`model.py` gives, which is written from the pages of docs/ and knows no tables. The clock is stopped, by the shim of
+`shim.c`, and is turned now and then, to the second of a deadline, one after it and one ahead of it. The store is opened
+again then. If there is no `cc` to build the shim with, or the program doesn't meet it, the clock is the system's, and
+deadlines are days from it. An entry's moment has to be the date of the answer by which its command was accepted, and
+each date the clock's. Ends with status 0 if all of it is, and else tells the seed, the request, what came and what was
+due.
 """
 import datetime
 import os

@@ -4,12 +4,12 @@
 
     /usr/bin/python3 checks/real_disks.py [FILE SYSTEM..] [PROGRAM]
 
-PROGRAM is `confd` as `rt run` builds it (crates/confd/out/confd where none is named), and FILE SYSTEM ext4, xfs or
-btrfs, all where none is told. Needs root, /dev/fuse, loop devices and Debian's Python with the packages that
-`checks/packages.sh disks` installs, so `.ci/run` leaves it out. The disk is a file that a process of this script lends
-by FUSE, which answers EIO to one write of those behind the first command; the power is cut by a copy of what that file
-then has. Each of these writes is refused in turn. Prints a line a file system, with what became of the runs; ends with
-status 0 where no answered command was lost.
+PROGRAM is `confd` as `rt run` builds it (crates/confd/out/confd if none is named), and FILE SYSTEM ext4, xfs or btrfs,
+all if none is named. Needs root, /dev/fuse, loop devices and Debian's Python with the packages that `checks/packages.sh
+disks` installs, so `.ci/run` leaves it out. The disk is a file that a process of this script lends by FUSE. It answers
+EIO to one write after those of the first command. The power is cut by a copy of what that file then has. Each of these
+writes is refused in turn. Prints a line a file system, with what became of the runs; ends with status 0 if no answered
+command was lost.
 """
 
 import collections

@@ -1,15 +1,15 @@
 #!/usr/bin/env python3
 # SPDX-License-Identifier: Apache-2.0 OR MIT
 """Asks the small model of `model.py` what the cases of crates/conformance/data send, and compares its answers with
-those that are due there: what a case expects is said a second time, by what no program answered.
+those that are due there. So a second source, which no program answered, says what a case expects.
 
     checks/replay.py           all case files
     checks/replay.py WORD..    those with a WORD in their name
 
-A case that stands on a store's rows, in which something fails, or which is asked of no conference is left out, and so
-is what is refused for its head, its path or its body, of which the model knows nothing. Prints a line for each answer
-that the model gives otherwise, and last how many were compared and how many cases were left out; ends with status 0
-where all are alike. Python 3 alone is needed. Takes some 15 seconds of a processor.
+A case is left out if it begins with a store's rows, if something fails in it, or if it has no conference. What is
+refused for its head, its path or its body is left out too, since the model knows nothing of these. Prints a line for
+each answer that the model gives otherwise, and last how many were compared and how many cases were left out. Ends with
+status 0 if all are alike. Needs only Python 3. Takes some 15 seconds of a processor.
 """
 import email.utils
 import json

@@ -5,16 +5,16 @@ the server is killed.
 
     python3 checks/retries.py [--commands N] [--kills N] [--seed N] [PROGRAM]
 
-PROGRAM is `confd` as `rt run` builds it (crates/confd/out/confd where none is named). Python 3 alone is needed. Eight
-clients take a conference from setup to discussion through a relay that cuts each connection behind a random number of
-bytes, on the way there or back; a client whose answer doesn't come whole connects anew and sends the same bytes.
-Meanwhile the server is killed, and started again on its store. Whatever the order, each of these commands is to be
-accepted. Now and then a client sends an old one again, or another by an old number. What is looked at:
+PROGRAM is `confd` as `rt run` builds it (crates/confd/out/confd if none is named). Needs only Python 3. Eight clients
+take a conference from setup to discussion through a relay that cuts each connection after a random number of bytes, on
+the way there or back. A client whose answer doesn't come whole connects anew and sends the same bytes. Meanwhile the
+server is killed, and started again on its store. Whatever the order, each of these commands is to be accepted. Now and
+then a client sends an old one again, or another by an old number. What is looked at:
 
-- each number of each user stands in the store's rows at the entries of one command, with the mark of what was sent;
-- the small model of `model.py`, asked the commands once each in the order of the rows, gives the answers that the
-  clients got, adds as many entries of the same kinds, and is asked about every paper, review and comment what the
-  server is.
+- each number of each user is in the store's rows at the entries of one command, with the mark of what was sent;
+- the small model of `model.py` gets the commands once each in the order of the rows. It gives the answers that the
+  clients got, and adds as many entries of the same kinds. Then it answers as the server does about every paper, review
+  and comment.
 
 Prints a line a check, and last `N passed, M failed`; ends with status 0 where none failed. Takes about a minute.
 """

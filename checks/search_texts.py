@@ -4,10 +4,10 @@
 
     checks/search_texts.py [TOKENS] [PROGRAM]
 
-Asks `confd pipe` each text of up to so many tokens (4 where none are told; 5 take a minute or two) of a small alphabet,
-over papers that have each set of three words in their titles, so that what is found tells the tree. Each answer has to
-be what `searches.py` gives: the papers, or the place. PROGRAM is `confd` as `rt run` builds it (crates/confd/out/confd
-where none is named). Ends with status 0 where all are.
+Asks `confd pipe` each text of up to so many tokens (4 if none are named; 5 take a minute or two) of a small alphabet.
+The papers have each set of three words in their titles, so what is found tells the tree. Each answer has to be what
+`searches.py` gives: the papers, or the place. PROGRAM is `confd` as `rt run` builds it (crates/confd/out/confd if none
+is named). Ends with status 0 if all are.
 """
 import itertools
 import json

@@ -4,12 +4,12 @@
 
     python3 checks/serve.py [--kills N] [--seconds S] [--timeouts] [PROGRAM]
 
-PROGRAM is `confd` as `rt run` builds it (crates/confd/out/confd where none is named). Python 3 alone is needed. Prints
-a line a check, and last `N passed, M failed`; ends with status 0 where none failed. Takes less than two minutes.
+PROGRAM is `confd` as `rt run` builds it (crates/confd/out/confd if none is named). Needs only Python 3. Prints a line a
+check, and last `N passed, M failed`; ends with status 0 if none failed. Takes less than two minutes.
 
-For longer runs: --kills N kills it N times under load (5 where it isn't said), the first time after S seconds (1), then
-sooner; --kills 1 --seconds 600 is one load of ten minutes. --timeouts also waits for the timeouts of 60 seconds, for
-two minutes and a half.
+For longer runs: --kills N kills it N times under load (by default 5), the first time after S seconds (1), then sooner.
+--kills 1 --seconds 600 is one load of ten minutes. --timeouts also waits for the timeouts of 60 seconds, for two
+minutes and a half.
 """
 
 import argparse

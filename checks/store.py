@@ -4,10 +4,10 @@
 
     python3 checks/store.py [CHECK..] [PROGRAM]
 
-PROGRAM is `confd` as `rt run` builds it (crates/confd/out/confd where none is named), and CHECK a name of CHECKS or
-CHECKS_BY_SHIM, all where none is told. Python 3 alone is needed, whose module `sqlite3` stands on SQLite 3.37 or
-later; and cc for the checks that refuse calls of the system (shim.py), which are left out where it is missing. Prints
-a line a check, and last `N passed, M failed`; ends with status 0 where none failed. The whole takes about a minute.
+PROGRAM is `confd` as `rt run` builds it (crates/confd/out/confd if none is named), and CHECK a name of CHECKS or
+CHECKS_BY_SHIM, all if none is named. Needs only Python 3, with a module `sqlite3` on SQLite 3.37 or later. The checks
+that refuse calls of the system (shim.py) need cc, and are left out if it is missing. Prints a line a check, and last `N
+passed, M failed`; ends with status 0 if none failed. The whole takes about a minute.
 """
 
 import contextlib

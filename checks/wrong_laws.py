@@ -9,14 +9,14 @@ and looks which laws are false of each.
     checks/wrong_laws.py --try NAME..      plants each in a copy of cr_base, cr_history, cr_policy and the crates
                                            of these laws, and runs `rt check` there, of one behind the other
 
-A rule that definition, view and tables share is the same on both sides of the law that views suffice. What refuses it
-is what is said of rules a second time: of old the invariants of cr_history and that the small conference is legal, and
-since then the clauses of `law_permissions` and `law_goes_on` of cr_permissions, of `law_first_told` of cr_conference,
-and `legal` of `law_undeducible` and `law_twins` of cr_undeduced, by which no rule reads a text or a grade, or which of
-two members it is. They are computed of histories that the planted rules let come about: the small conference phase by
-phase, and twins of it; for nobody and nine users, each command, query and bulk of checks/planted/asked.py; the last two
-of the conference with other values in its commands, and with two members in each other's place at a paper. Of the rules
-as they stand all have to hold. WORD picks rows by a word of their name, or a topic. Ends with status 0 where all were
+A rule that definition, view and tables share is the same on both sides of the law that views suffice. A second
+statement of rules refuses it. That is the invariants of cr_history, and that the small conference is legal; and the
+clauses of `law_permissions` and `law_goes_on` of cr_permissions, and of `law_first_told` of cr_conference. `legal` of
+`law_undeducible` and `law_twins` of cr_undeduced says that no rule reads a text or a grade, or which of two members it
+is. They are computed of histories that the planted rules let come about: the small conference phase by phase, and twins
+of it. The callers are nobody and nine users, with each command, query and bulk of checks/planted/asked.py. The last two
+are computed of the conference with other values in its commands, and with two members in each other's place at a paper.
+Of the right rules all have to hold. WORD picks rows by a word of their name, or a topic. Ends with status 0 if all were
 as due.
 """
 import concurrent.futures

@@ -2,20 +2,19 @@
 # SPDX-License-Identifier: Apache-2.0 OR MIT
 """Plants wrong rules in copies of the repository and runs the cases of conformance on each, unproved.
 
-A rule of a command stands on both sides of the law that views suffice, so a wrong one that code and
-definition share meets that law as well: the cases refuse it, and the rules said twice (wrong_laws.py). This
-changes the code alone, since nothing is proved here, and wants at least one case of the files named not to
-come out as due.
-The rules are the rows in checks/planted/rules.
+A rule of a command is on both sides of the law that views suffice. So a wrong one that code and definition share meets
+that law as well. The cases refuse it, and the second statement of rules (wrong_laws.py). This changes only the code,
+since nothing is proved here, and wants at least one case of the files named not to come out as due. The rules are the
+rows in checks/planted/rules.
 
     checks/wrong_rules.py              all of them, as many topics at a time as there are processors
     checks/wrong_rules.py WORD..       those with one of these words in their name, or of a topic so named
     checks/wrong_rules.py --check ..   only whether each text that is to be changed is there, once
 
-Ends with status 0 where every one is refused. A build takes three processor minutes and more. So those of a
-topic are planted side by side in one copy, which is built once and run for each (checks/planted/switch.py); the
-few that can't be have one of their own, and those with cases that spend a quota, which run for a minute, have another.
-The whole takes some two hours and a half of processors. JOBS=n has n at a time.
+Ends with status 0 if every one is refused. A build takes three processor minutes and more. So those of a topic are
+planted side by side in one copy, which is built once and run for each (checks/planted/switch.py). The few that can't be
+have one of their own, and those with cases that spend a quota, which run for a minute, have another. The whole takes
+some two hours and a half of processors. JOBS=n has n at a time.
 """
 import concurrent.futures
 import contextlib

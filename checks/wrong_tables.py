@@ -12,9 +12,9 @@
                                              what is below its crate first
 
 WORD picks the rows that have it in their name, or a topic. Clauses are computed for nobody and every user of the small
-conference, in each mode and phase, and of made-up histories that aren't legal; those by part on the values shown alone;
-that of looks with other values made up for each place. The table as it stands is computed first, and every clause has
-to hold of it. Ends with status 0 where all were as due.
+conference, in each mode and phase, and of made-up histories that aren't legal. Those by part are computed only on the
+values shown, that of looks with other values made up for each place. The right table is computed first, and every
+clause has to hold of it. Ends with status 0 if all were as due.
 """
 import concurrent.futures
 import functools

@@ -4,12 +4,12 @@
 
     deploy/move_store.py [--confd PROGRAM] FROM TO
 
-One of FROM and TO ends in `.cj`, and no confd runs on FROM, which stays as it is; a log beside a database is taken into
-it. TO isn't there yet. It gets FROM's owner, and only that user can read it. PROGRAM is `confd`, found as a shell finds
-it if not told. TO comes to be whole or not at all, and only if it has the rows of FROM and if `confd view` prints the
-same of both for each user; so the move costs two openings a user. Until then everything is in a folder TO.moving
-beside it, which a kill may leave and the next move to TO removes. TO takes as much room on the disk as FROM, a
-database twice that meanwhile.
+One of FROM and TO ends in `.cj`, and no confd runs on FROM, which is left unchanged; a log beside a database is taken
+into it. TO isn't there yet. It gets FROM's owner, and only that user can read it. PROGRAM is `confd`, found as a shell
+finds it if it isn't named. TO is made whole or not at all: only if it has the rows of FROM, and if `confd view` prints
+the same of both for each user. So the move costs two openings a user. Until then everything is in a folder TO.moving
+beside it, which a kill may leave and the next move to TO removes. TO takes as much room on the disk as FROM, a database
+twice that meanwhile.
 
 The formats are those of docs/STORE.md. Needs Python 3 with SQLite 3.37 or later, and no package. Prints one line, and
 ends with status 0; if anything fails, with status 1 and what failed on standard error, and 2 if the words are wrong.

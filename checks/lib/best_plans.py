@@ -1,9 +1,9 @@
 # SPDX-License-Identifier: Apache-2.0 OR MIT
-"""The best plan of assignments, found otherwise than the program finds it, and from whole numbers alone.
+"""The best plan of assignments, found otherwise than the program finds it, and only from whole numbers.
 
 All plans have as many pairs. So an earlier pair is made to weigh more than all later ones together, and a bid more than
-all pairs: the plan that then weighs most is the first of those whose bids have the greatest sum. Places are filled one
-by one, each along the way of exchanges that gains most (Bellman's and Ford's search), which keeps what is chosen the
+all pairs. The plan that then weighs most is the first of those whose bids have the greatest sum. Places are filled one
+by one, each along the way of exchanges that gains most (Bellman's and Ford's search). That keeps what is chosen the
 heaviest for its places.
 """
 

@@ -4,10 +4,10 @@
 
     python3 checks/lib/confined.py UNIT COMMAND..
 
-The lines of UNIT that systemd makes seccomp filters of (FILTERS, and SystemCallFilter with SystemCallErrorNumber) are
+systemd makes seccomp filters of some lines of UNIT (FILTERS, and SystemCallFilter with SystemCallErrorNumber). They are
 read from the file itself, by the meaning that systemd.exec(5) gives them; what its other lines do is left to checks of
 systemd. Needs libseccomp.so.2, which Debian's apt needs too, and systemd-analyze, which tells the groups of calls. Ends
-as COMMAND does; with a message where the filters can't be made. unit.py uses it.
+as COMMAND does; with a message if the filters can't be made. unit.py uses it.
 """
 
 import collections

@@ -1,12 +1,12 @@
 # SPDX-License-Identifier: Apache-2.0 OR MIT
 """A small model of confd, written from docs/API.md, STORE.md and VIEWS.md and from nothing else.
 
-A conference is a list of entries; each answer, each rule and each line of a view is read off that list anew, with no
-table beside it but the answers to commands that had a number. The lines of a view are made in `model_views.py`, reports
-in `model_reports.py`. It is slow and short, and stands against the program in `random_runs.py`, `drills.py` and
-`retries.py`. It answers requests whose bodies are well formed; what is wrong with a body or a head stands in cases.
-Whoever asks it sets the moment of the request. Below, `u` and `v` are users' numbers, `p` is a paper's, and `t` is the
-user whom a command names; nobody's number is None.
+A conference is a list of entries. Each answer, each rule and each line of a view is read off that list anew, with no
+table beside it except the answers to commands that had a number. The lines of a view are made in `model_views.py`,
+reports in `model_reports.py`. It is slow and short, and is compared with the program in `random_runs.py`, `drills.py`
+and `retries.py`. It answers requests whose bodies are well formed; what is wrong with a body or a head is in cases. The
+caller sets the moment of the request. In this file `u` and `v` are users' numbers, `p` is a paper's, and `t` is the
+user that a command names. The number of an unauthenticated caller is None.
 """
 import csv
 import datetime

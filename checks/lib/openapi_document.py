@@ -1,10 +1,10 @@
 # SPDX-License-Identifier: Apache-2.0 OR MIT
 """docs/openapi.json as checks/openapi.py reads it: its operations, its schemas, its layout, and whether it is valid.
 
-checks/openapi_3.1.schema.json is OpenAPI's own schema of a document, but for the schemas in it, as it was published:
-https://spec.openapis.org/oas/3.1/schema/2022-10-07, by the OpenAPI Initiative under the Apache License 2.0 (taken from
-the package openapi-spec-validator 0.9.0). The schemas in the document are JSON Schema 2020-12, whose own schema
-python3-jsonschema has.
+checks/openapi_3.1.schema.json is OpenAPI's own schema of a document, except the schemas in it, as it was published:
+https://spec.openapis.org/oas/3.1/schema/2022-10-07, by the OpenAPI Initiative under the Apache License 2.0. It was
+taken from the package openapi-spec-validator 0.9.0. The schemas in the document are JSON Schema 2020-12, whose own
+schema python3-jsonschema has.
 """
 import csv
 import functools

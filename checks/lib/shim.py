@@ -1,8 +1,8 @@
 # SPDX-License-Identifier: Apache-2.0 OR MIT
 """The shim of shim.c, built and told what to do: what checks need that refuse calls, cut them short or turn the clock.
 
-`cc` is needed, and a program that takes
-the C library as it is loaded; where either is missing, the checks are left out, with a line that says so.
+Needs `cc`, and a program that takes the C library that is loaded. If either is missing, the checks are left out, with a
+line that says so.
 """
 
 import concurrent.futures

@@ -2,8 +2,8 @@
 """The specs of crates/, read as text: what each module imports and defines, and what a contract rests on.
 
 A module is a pair of a crate and a name. What a contract cites is what the `ghost use` lines of its file import and its
-clauses name. Two closures are taken from there: by imports, each module that a module reached imports; and by names,
-each definition that a definition reached names, which is what has to be read.
+clauses name. Two closures are taken from there. By imports: each module that a module reached imports. By names: each
+definition that a definition reached names, which is what has to be read.
 """
 
 import functools

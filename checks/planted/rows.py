@@ -1,5 +1,5 @@
 # SPDX-License-Identifier: Apache-2.0 OR MIT
-"""Reads the rows of plants that stand beside this, and plants one. README.md here says the form.
+"""Reads the rows of plants that are beside this, and plants one. README.md here says the form.
 
     python3 checks/planted/rows.py    prints how many there are of each kind and topic, and what that is about
 """

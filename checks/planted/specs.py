@@ -2,9 +2,9 @@
 """Computes definitions out of specs/*.antt, on closed values and with no prover, for wrong_tables.py and wrong_laws.py.
 
 It reads the part of the language in which tables, facts and clauses are written: equations by cases, records, lists, λ,
-if. A clause is computed as a Bool: `→` as what follows, `×` as both, `≡` as being the same, ⊥ as false, and what stands
-for every paper as all of PAPERS. This is a second reading of that language and nothing is proved by it: it says which
-plants a law should refuse, and the check says whether it does.
+if. A clause is computed as a Bool. `→` is what follows, `×` both, `≡` being the same, ⊥ false; what holds for every
+paper is for all of PAPERS. This is a second reading of that language and proves nothing. It says which plants a law
+should refuse, and the check says whether it does.
 """
 import functools
 import os

@@ -1,10 +1,10 @@
 # SPDX-License-Identifier: Apache-2.0 OR MIT
 """Plants many rows in one copy of the crates, of which a number that the run is given chooses one.
 
-To build a program costs far more than to run it. So beside each function that a row changes stands a twin with the
-row's body, under a name of its own; the function itself first asks whether that row's number is the one that was
-given, and calls the twin where it is. The number is the first word of the file `case` in the folder that
-the program runs in, as `rt try --cases` gives it: one build, and a run for each file of a folder.
+To build a program costs far more than to run it. So beside each function that a row changes is a twin with the row's
+body, under a name of its own. The function itself first looks whether that row's number is the one that was given, and
+calls the twin if it is. The number is the first word of the file `case` in the folder that the program runs in, as `rt
+try --cases` gives it. So there is one build, and a run for each file of a folder.
 
 A row that changes more than bodies, or a function of a trait, can't be planted so.
 """
