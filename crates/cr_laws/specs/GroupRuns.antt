@@ -1,6 +1,6 @@
--- TwoRunsOfGroup: two runs that agree in what a group of users wish, in the order of all their requests, and in what
--- each of them sees at each of her own agree in every byte that they are answered, in that order. So it tells them
--- nothing more that they put together whatever they are answered.
+-- TwoRunsOfGroup: two runs that agree in what a group of users wish, in the order of all their requests, in which
+-- answers close a connection of theirs, and in what each of them sees at each request of her own agree in every byte
+-- that they are answered, in that order. So they learn nothing more by putting together all that they are answered.
 use Rattle.std.specs.Prelude.{◌≡◌, ℕ, List, [], ◌∷◌, ◌++◌, Option, Bool}
 use Rattle.std.specs.List.{list_any, Contains}
 use Rattle.cr_base.specs.History.{History}

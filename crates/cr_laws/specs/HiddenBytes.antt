@@ -1,5 +1,6 @@
--- HiddenBytes: two runs in which a user wishes the same at the same moments, and which differ at her wishes only in
--- what she isn't shown, agree in every byte that she is answered.
+-- HiddenBytes: two runs in which a user wishes the same at the same moments, the same answers close her connections,
+-- and what was done before each of her wishes differs only in what she isn't shown, agree in every byte that she is
+-- answered.
 use Rattle.std.specs.Prelude.{ℕ, Option}
 use Rattle.cr_policy.specs.HiddenPayload.{LooksSame}
 use Rattle.cr_session.specs.TwoRuns.{Run, HearsAlike}

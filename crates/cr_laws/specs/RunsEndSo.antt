@@ -1,5 +1,5 @@
--- RunsEndSo: which histories a run could have ended in, for all that a group of users were answered in it. So what a law
--- says of histories is said of requests and their answers.
+-- RunsEndSo: which histories a run could have ended in, for all that a group of users were answered in it. So what a
+-- law says of histories is said of requests and their answers.
 use Rattle.std.specs.Prelude.{ℕ, Bool, true, false, ◌≡◌, ◌||◌, List, [], ◌∷◌, Option, IsTrue}
 use Rattle.std.specs.List.{Contains}
 use Rattle.cr_base.specs.declared.entry.Entry.{Entry}

@@ -1,5 +1,5 @@
--- TwinsBytes: two users of one role, of whom neither wrote a paper, may have had each other's place at it, for all that a
--- group are answered who aren't shown it.
+-- TwinsBytes: two users of one role, of whom neither wrote a paper, may have had each other's place at it, for all
+-- that a group are answered who aren't shown it.
 use Rattle.std.specs.Prelude.{ℕ, List, [], ◌∷◌, Option, take, IsTrue, IsFalse}
 use Rattle.std.specs.List.{list_any, Contains}
 use Rattle.cr_base.specs.History.{History}

@@ -1,6 +1,6 @@
--- UndeducibleBytes: whatever a group of users ask, all that they hear could have come of a conference in which
--- everything that they weren't shown was different. What they were shown is said in the words of the bounds, by
--- the other values of law_undeducible; the runs are those of law_group_runs.
+-- UndeducibleBytes: whatever a group of users ask, all that they hear could have come of a conference in which all
+-- values that they weren't shown were others. What they were shown is said in the words of the bounds, by the other
+-- values of law_undeducible; the runs are those of law_group_runs.
 use Rattle.std.specs.Prelude.{ℕ, ◌≡◌, suc, List, [], ◌∷◌, map, Option, IsTrue}
 use Rattle.std.specs.Prelude.{if◌then◌else◌}
 use Rattle.cr_base.specs.declared.entry.Entry.{Entry}

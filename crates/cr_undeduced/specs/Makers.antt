@@ -55,7 +55,7 @@ has_account w H = list_any (λ (r : Registration). r.user == w) (all_told regist
 abbrev pub may_have_made : ℕ → History → Stamped → Bool
 may_have_made w before e = w == e.stamp.maker || (has_account w before && has_right w before e.entry)
 
--- where another entry of the same command or bulk follows, it has the same maker; one of a bulk's own, or a chair
+-- where another entry of the same command or bulk follows, both have the same maker: the one whom they had, or a chair
 abbrev pub is_one_command : ℕ → ℕ → History → Stamped → Bool
 is_one_command w next before e = not e.more || (next == w && (w == e.stamp.maker || chairs w before))
 

@@ -100,13 +100,13 @@ pub fn law_makers()
 
 /// Two users of one role, of whom neither wrote a paper, are twins at it: they may have had each other's place there.
 /// Take a legal history, and the one in which they change places in every entry on the paper, as who made it and as
-/// whom it names: who bid, is declared in conflict, invited or assigned, wrote forms and comments, turned tags, decided,
-/// assigned, invited. That history is legal (`legal`), where at each entry that names another then, or is made by
-/// another, both have registered and have the same role; where none that changes hands is one of several of a bulk,
+/// whom it names: who bid, is declared in conflict, invited or assigned, wrote forms and comments, turned tags,
+/// decided, assigned, invited. That history is legal (`legal`), where at each entry that names another then, or is made
+/// by another, both have registered and have the same role; where none that changes hands is one of several of a bulk,
 /// whose other rows may be on other papers; and where nobody has written more than 1,000 comments in it. Another's
 /// command has no number there. Whoever is neither of the two, and by the bounds isn't told who made these entries nor
-/// whom they name, sees the same when she looks (`unseen`). So it is in the anonymous mode of everyone but chairs, and in
-/// any mode but the open one of the paper's authors, where she made none of the entries that name one of the two
+/// whom they name, sees the same when she looks (`unseen`). So it is in the anonymous mode of everyone but chairs, and
+/// in any mode but the open one of the paper's authors, where she made none of the entries that name one of the two
 /// herself, as a chair who was dismissed has, and no author of a paper of hers declared one of them (`unnamed`).
 pub fn law_twins()
     ensures legal { TwinsLegal }
