@@ -13,5 +13,6 @@ pub mod LogIns
 pub mod Movers
 pub mod AnyRunLaws
 pub mod TwinsBytesLaws
+pub mod TwinsNeededLaws
 pub mod PlanPostedLaws
 pub mod SearchesSpeltLaws

@@ -5,6 +5,7 @@ pub mod AnotherRun
 pub mod RunsEndSo
 pub mod UndeducibleBytes
 pub mod TwinsBytes
+pub mod TwinsNeeded
 pub mod PlanPosted
 pub mod ResponseBytes
 pub mod SearchesSpelt

@@ -13,6 +13,7 @@ ghost use Rattle.cr_laws.specs.ResponseBytes.{ResponseBytes};
 ghost use Rattle.cr_laws.specs.RunsEndSo.{RunsEndSo};
 ghost use Rattle.cr_laws.specs.SearchesSpelt.{ReadsAsSpelt, WishesAsSpelt};
 ghost use Rattle.cr_laws.specs.TwinsBytes.{TwinsHeard};
+ghost use Rattle.cr_laws.specs.TwinsNeeded.{TwinsNeeded};
 ghost use Rattle.cr_laws.specs.UndeducibleBytes.{OthersHeard, ShorterHeard};
 
 /// A plan is taken as it was told: on a legal history the text that a chair is told, posted by her as a bulk with
@@ -97,4 +98,15 @@ pub fn law_another_run()
 /// `law_another_run`. Nothing accepted is lost in either run.
 pub fn law_twins_bytes()
     ensures { TwinsHeard }
+{}
+
+/// Of who looks at twins it must be asked that she is neither of them. In the anonymous mode of the small conference of
+/// `cr_conference` dave reviews paper 1, or his twin hal does: both histories are legal, they are twins by `law_twins`,
+/// and a form is written under label A and read in the discussion. Hal is shown neither that dave is assigned nor who
+/// wrote it, so all else is asked of him that `unseen` and `unnamed` ask; yet he doesn't see the same of the two,
+/// since he is shown that he is assigned himself. Whoever is neither, and no chair, does. In each of the two
+/// histories every other member and chair is shown the form, and no assignment of her own: so if they all tell each
+/// other, they know who reviews.
+pub fn law_twins_needed()
+    ensures { TwinsNeeded }
 {}
