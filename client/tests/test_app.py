@@ -5,6 +5,7 @@ from __future__ import annotations
 
 import io
 from pathlib import Path
+from typing import Any
 
 import click
 import pytest
@@ -67,6 +68,27 @@ def test_no_word_of_the_command_line_is_a_secret() -> None:
         names = {word for option in command.params for word in option.opts if "secret" in word}
         assert names <= {"--secret-file"}
     assert run(["--secret", "alice-secret-000001", "phase"]) == 2
+
+
+def test_an_address_that_nobody_named(monkeypatch: pytest.MonkeyPatch, capsys: pytest.CaptureFixture[str]) -> None:
+    """If nothing answers there, it is asked once whether it is meant."""
+    made: list[App] = []
+
+    def recorded(**words: Any) -> App:
+        made.append(App(**words))
+        return made[-1]
+
+    monkeypatch.setattr("confd_client.cli.App", recorded)
+    monkeypatch.delenv("CONFD_URL", raising=False)
+    for words in (["phase", "-h"], ["--url", "http://127.0.0.1:8080", "phase", "-h"]):
+        assert run(words) == 0
+    monkeypatch.setenv("CONFD_URL", "http://127.0.0.1:8080")
+    assert run(["phase", "-h"]) == 0
+    assert [app.is_url_named for app in made] == [False, True, True]
+    for app in made:
+        app._waits("connection refused", 1)
+        app._waits("connection refused", 2)
+    assert capsys.readouterr().err.count("CONFD_URL") == 1
 
 
 def test_each_module_is_listed() -> None:

@@ -10,50 +10,26 @@ from __future__ import annotations
 
 import importlib
 import os
+import re
 import sys
 from pathlib import Path
 
 import click
+from click.core import ParameterSource
 
 from confd_client import __version__
 from confd_client.cli.app import REFUSED, App, fail, status_of
 from confd_client.client import PATIENCE
 from confd_client.errors import BadFile, ClientError
 
-MODULES = [
-    # for everyone
-    "register",
-    "phase",
-    "deadline",
-    "search",
-    "export",
-    # for authors
-    "submit",
-    "revise",
-    "upload",
-    "withdraw",
-    "respond",
-    "letter",
-    # for members
-    "bids",
-    "papers",
-    "fetch",
-    "form",
-    "review",
-    "reviews",
-    "comments",
-    # for chairs
-    "mode",
-    "committee",
-    "conflicts",
-    "invite",
-    "status",
-    "plan",
-    "assign",
-    "decide",
-    "letters",
-]
-"""The commands, in the order in which `--help` lists them."""
+GROUPS = {
+    "For everyone": ["register", "phase", "deadline", "search", "papers", "export"],
+    "For authors": ["submit", "revise", "upload", "withdraw", "conflicts", "reviews", "respond", "letter"],
+    "For members": ["bids", "fetch", "form", "review", "comments"],
+    "For chairs": ["mode", "committee", "invite", "status", "plan", "assign", "decide", "letters"],
+}
+"""The commands as `--help` lists them, each below the first whom it is for."""
+MODULES = [module for modules in GROUPS.values() for module in modules]
 
 
 class Commands(click.Group):
@@ -72,19 +48,31 @@ class Commands(click.Group):
         command.name = cmd_name
         return command
 
+    def format_commands(self, ctx: click.Context, formatter: click.HelpFormatter) -> None:
+        """Lists the commands by whom they are for, each with the first sentence of its help."""
+        for title, modules in GROUPS.items():
+            with formatter.section(title):
+                formatter.write_dl([(name, _first_sentence(self.get_command(ctx, name)))
+                                    for name in (module.replace("_", "-") for module in modules)])
+
+
+def _first_sentence(command: click.Command | None) -> str:
+    text = " ".join((command and command.help or "").split())
+    return re.split(r"(?<=[^.])\.(?: |$)", text)[0]
+
 
 @click.group(cls=Commands, context_settings={"help_option_names": ["-h", "--help"]})
 @click.version_option(__version__)
-@click.option("--url", default="http://127.0.0.1:8080", show_default=True, envvar="CONFD_URL",
+@click.option("--url", default="http://127.0.0.1:8080", show_default=True, envvar="CONFD_URL", show_envvar=True,
               help="Where the server is: https, or http to this machine.")
-@click.option("--user", envvar="CONFD_USER", help="Your name, where the secret file doesn't have it.")
-@click.option("--secret-file", type=click.Path(path_type=Path), envvar="CONFD_SECRET_FILE",
+@click.option("--user", envvar="CONFD_USER", show_envvar=True, help="Your name, where the secret file doesn't have it.")
+@click.option("--secret-file", type=click.Path(path_type=Path), envvar="CONFD_SECRET_FILE", show_envvar=True,
               help="A file of your own, mode 0600: your secret, or NAME.SECRET. Else ~/.config/confd/secret is taken, "
                    "where it is there.")
-@click.option("--ca-file", type=click.Path(path_type=Path, exists=True), envvar="CONFD_CA_FILE",
+@click.option("--ca-file", type=click.Path(path_type=Path, exists=True), envvar="CONFD_CA_FILE", show_envvar=True,
               help="The certificates to trust, in place of the system's.")
 @click.option("--patience", type=click.FloatRange(min=0), default=PATIENCE, show_default=True,
-              envvar="CONFD_PATIENCE",
+              envvar="CONFD_PATIENCE", show_envvar=True,
               help="For how many seconds a request is sent again while nothing answers it; inf: for ever.")
 @click.option("--json", "as_json", is_flag=True, help="Answer one JSON value on standard output, for scripts.")
 @click.pass_context
@@ -96,16 +84,21 @@ def main_group(context: click.Context, url: str, user: str | None, secret_file: 
     command line. You are shown what the server shows you, and no more.
 
     \b
-    Exit status: 0 all was done; 1 the server refused it, or a part of it; 2 the command line is wrong; 3 no server
-    answered; 4 a file is wrong, and nothing was sent; 5 you were asked and said no.
+    Exit status:
+      0 all was done
+      1 the server refused it, or a part of it
+      2 the command line is wrong
+      3 no server answered
+      4 a file is wrong, and nothing was sent
+      5 you were asked and said no
 
     \b
     Examples:
       confd-client --user alice --secret-file alice.secret status
-      CONFD_URL=https://review.example.org confd-client --json me
+      CONFD_URL=https://review.example.org confd-client --json papers
     """
     context.obj = App(url=url, user=user, secret_file=secret_file, ca_file=ca_file, patience=patience,
-                      as_json=as_json)
+                      as_json=as_json, is_url_named=context.get_parameter_source("url") is not ParameterSource.DEFAULT)
 
 
 def main(words: list[str] | None = None) -> None:

@@ -79,6 +79,7 @@ class App:
     ca_file: Path | None = None
     patience: float = PATIENCE
     as_json: bool = False
+    is_url_named: bool = True
     out: Console = field(default_factory=lambda: _console(sys.stdout))
     err: Console = field(default_factory=lambda: _console(sys.stderr))
 
@@ -174,6 +175,9 @@ class App:
     def _waits(self, reason: str, seconds: float) -> None:
         if seconds >= 1:
             self.note(f"{self.url}: {reason}; sending again in {seconds:.0f} s")
+            if not self.is_url_named:
+                self.note("Is the server elsewhere? Say where by --url, or by the variable CONFD_URL")
+                self.is_url_named = True
 
     def close(self) -> None:
         """Closes the client's connections, where it was wanted."""
