@@ -133,7 +133,7 @@ class BadNumber(Refusal):
 
 
 class BadQuery(Refusal):
-    """The search can't go on at `place`, or the plan's two numbers are none."""
+    """The search can't be read from that byte on, or the plan's two numbers are none."""
 
 
 class BadTag(Refusal):
@@ -316,6 +316,9 @@ def meaning_of(name: str) -> str:
 def refusal(status: int, told: object, what: str) -> Refusal:
     """The exception for a refusal, whose JSON is `told`. Raises `Unexpected` where that is no refusal of confd's."""
     if not isinstance(told, dict) or told.get("error") not in REFUSALS:
+        if told is None:
+            raise Unexpected(f"{what}: the status {status}, and not from confd: a server in between, such as nginx, "
+                             "refused it, or the address is another server's")
         raise Unexpected(f"{what}: the status {status} with what is no error of confd's: {told!r:.200}")
     row, rule, place = told.get("row"), told.get("rule"), told.get("place")
     return REFUSALS[told["error"]](status, what=what, row=row, rule=rule, place=place)

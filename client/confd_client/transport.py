@@ -9,6 +9,7 @@ import ipaddress
 import json
 import math
 import random
+import re
 import secrets
 import time
 from collections.abc import Callable, Mapping
@@ -30,8 +31,9 @@ FIRST_PAUSE, LONGEST_PAUSE = 0.1, 10.0
 """The seconds before a request is sent a second time, and the most before any; each pause is twice the one before."""
 FRESH_NUMBERS = 3
 """How many numbers that turn out to be used are left for others before that is told."""
-SEND_AGAIN = {502, 503, 504, 507}
-"""The statuses after which the same is sent again: a gateway's, and those of confd's own that say so."""
+SEND_AGAIN = {429, 502, 503, 504, 507}
+"""The statuses after which the same is sent again: a gateway's, and those of confd's own that say so. By 429 a gateway
+refuses more requests than it takes from one address."""
 FOR_EVER = math.inf
 """As a patience: a request is sent again until it is answered, however long that takes."""
 
@@ -203,7 +205,7 @@ class Transport:
                 request.method, self.url + request.path, params=dict(request.query), data=body,
                 headers=headers, timeout=(CONNECTED_WITHIN, ANSWERED_WITHIN), allow_redirects=False)
         except requests.exceptions.SSLError as cause:
-            raise Unanswered(str(request), f"no secure connection: {cause}") from cause
+            raise Unanswered(str(request), f"no secure connection: {why_insecure(cause)}") from cause
         except (requests.ConnectionError, requests.Timeout, requests.exceptions.ChunkedEncodingError) as cause:
             raise Lost(_why(cause)) from cause
         except requests.RequestException as cause:
@@ -233,6 +235,12 @@ def _why(cause: requests.RequestException) -> str:
         if known in text:
             return known[0].lower() + known[1:]
     return type(cause).__name__
+
+
+def why_insecure(cause: requests.exceptions.SSLError) -> str:
+    """A few words on what is wrong with a certificate; all that is told where it is something else."""
+    found = re.search(r"certificate verify failed: .*?(?= \(_ssl)", str(cause))
+    return found.group() if found is not None else str(cause)
 
 
 def _accepted(request: Request, answer: Answer) -> Answer:

@@ -8,6 +8,7 @@ import time
 from pathlib import Path
 
 import pytest
+import requests
 
 from confd_client import Client, Credentials, Unanswered, Unexpected, errors, transport
 from tests.conftest import Server, secret_of
@@ -28,7 +29,7 @@ def at(url: str, patience: float = 20) -> Client:
     return Client(url, Credentials("alice", secret_of("alice")), patience=patience)
 
 
-@pytest.mark.parametrize("trouble", ["drop", "lose", "head", "half", "late", "keeper", 502, 503, 504, 507])
+@pytest.mark.parametrize("trouble", ["drop", "lose", "head", "half", "late", "keeper", 429, 502, 503, 504, 507])
 def test_a_command_acts_once(server: Server, trouble: str | int) -> None:
     """Whatever happens to it twice, it is sent again by its number, and acts once."""
     alice = discussing(server)
@@ -38,7 +39,7 @@ def test_a_command_acts_once(server: Server, trouble: str | int) -> None:
     assert [comment.text for comment in alice.comments(1)] == ["x"]
 
 
-@pytest.mark.parametrize("trouble", ["drop", "head", "half", 502, 503, 504, 507])
+@pytest.mark.parametrize("trouble", ["drop", "head", "half", 429, 502, 503, 504, 507])
 def test_a_read_is_sent_again(server: Server, trouble: str | int) -> None:
     """Without a number."""
     alice = discussing(server)
@@ -111,13 +112,23 @@ def test_pauses_grow(server: Server) -> None:
     assert all(bound / 2 <= pause <= bound for pause, bound in zip(told, bounds, strict=True))
 
 
-@pytest.mark.parametrize("status", [302, 404, 413, 500])
+@pytest.mark.parametrize("status", [302, 403, 404, 413, 500])
 def test_an_answer_of_another_server(server: Server, status: int) -> None:
     """It isn't followed, nor taken for a refusal of confd's, nor sent again."""
     discussing(server)
-    with gateway(server, status) as between, at(between.url) as client, pytest.raises(Unexpected):
-        client.comment(1, "x")
+    with gateway(server, status) as between, at(between.url) as client:
+        with pytest.raises(Unexpected, match="not from confd"):
+            client.comment(1, "x")
     assert len(between.seen) == 1
+
+
+def test_a_certificate_that_nobody_vouches_for() -> None:
+    """What is wrong with it is told, without what only a programmer reads; anything else is told whole."""
+    told = ("Max retries (Caused by SSLError(SSLCertVerificationError(1, '[SSL: CERTIFICATE_VERIFY_FAILED] "
+            "certificate verify failed: self-signed certificate (_ssl.c:992)')))")
+    assert transport.why_insecure(requests.exceptions.SSLError(told)) == (
+        "certificate verify failed: self-signed certificate")
+    assert transport.why_insecure(requests.exceptions.SSLError("wrong version")) == "wrong version"
 
 
 def test_what_the_environment_says_of_others(server: Server, monkeypatch: pytest.MonkeyPatch, tmp_path: Path) -> None:
