@@ -29,9 +29,10 @@ class Credentials:
     def __post_init__(self) -> None:
         """Raises ValueError for what can't be a name or a secret, without the secret."""
         if not NAME.fullmatch(self.name):
-            raise ValueError(f"{self.name!r} is no name: 1 to 32 of a to z, 0 to 9 and -")
+            raise ValueError(f"{self.name!r} is no name, which has 1 to 32 characters of a to z, 0 to 9 and -")
         if not SECRET.fullmatch(self.secret):
-            raise ValueError("the secret is none: 16 to 64 of A to Z, a to z, 0 to 9, _, ~, + and -")
+            raise ValueError("the secret is none, which has 16 to 64 characters of A to Z, a to z, 0 to 9, _, ~, + "
+                             "and -")
 
     def field(self) -> str:
         """The value of the field Authorization (RFC 6750, section 2.1)."""

@@ -63,7 +63,8 @@ def read_table(path: Path, columns: Sequence[str], optional: Sequence[str] = ())
         header = [name.strip() for name in next(reader, [])]
         missing = [name for name in columns if name not in header]
         if missing or len(set(header)) < len(header):
-            raise BadFile(path, f"the first line has to name the columns {', '.join(columns)}, each once", 1)
+            raise BadFile(path, f"the first line has to name the columns {', '.join(columns)}, each once, with commas "
+                                f"between them; it is {','.join(header)!r:.100}", 1)
         for fields in reader:
             if len(fields) > len(header):
                 raise BadFile(path, f"has {len(fields)} fields under {len(header)} columns", reader.line_num)

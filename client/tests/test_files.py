@@ -70,6 +70,14 @@ def test_numbers_and_words_of_a_table(tmp_path: Path) -> None:
         wrong.one_of("decision", ["accept"])
 
 
+def test_columns_that_are_not_there(tmp_path: Path) -> None:
+    """What the first line says is told, such as one with other separators."""
+    path = tmp_path / "table.csv"
+    path.write_text("paper;decision\n7;accept\n")
+    with pytest.raises(BadFile, match="line 1: .*commas.* 'paper;decision'"):
+        read_table(path, ("paper", "decision"))
+
+
 def test_a_bulk_is_what_the_api_shows() -> None:
     """The file of docs/API.md, section 8."""
     rows = [Row("1", "primary", "bob"), Row("2", "secondary", "bob"), Row("1", "tag", tag="hot"),

@@ -9,6 +9,7 @@ import click
 
 from confd_client.cli.app import App, Command, pass_app
 from confd_client.cli.posting import Posting, read_rows
+from confd_client.cli.status import count_of
 
 
 @click.command(cls=Command)
@@ -31,4 +32,4 @@ def command(app: App, file: Path) -> None:
     """
     rows = read_rows(file)
     posted = Posting(app, file, rows).post() if rows else 0
-    app.emit({"rows": len(rows), "pieces": posted}, f"{len(rows)} rows done")
+    app.emit({"rows": len(rows), "pieces": posted}, f"{count_of(len(rows), 'row')} done")

@@ -11,11 +11,14 @@ import click
 from confd_client.answers import Phase, Role
 from confd_client.bulks import Row
 from confd_client.cli.app import App, Command, Partly, pass_app
-from confd_client.cli.posting import Posting, checked_row
+from confd_client.cli.posting import Columns, Posting, checked_row
+from confd_client.cli.status import count_of
 from confd_client.errors import Refusal
 from confd_client.tables import read_table
 
 YES, NO = ("", "on", "yes", "true", "1"), ("off", "no", "false", "0")
+COLUMNS = Columns(("paper", "user", "on"),
+                  lambda row: (row.paper, row.user, "yes" if row.action == "conflict" else "no"))
 
 
 @click.command(cls=Command)
@@ -40,17 +43,17 @@ def command(app: App, file: Path) -> None:
     is_bulk = me.role is Role.CHAIR and Phase.BIDDING.place <= phase.place <= Phase.DISCUSSION.place
     # A bulk refuses a conflict of the caller's own.
     at_once = [row for row in rows if is_bulk and row.user != me.name]
+    by_itself = [row for row in rows if not is_bulk or row.user == me.name]
     if at_once:
-        Posting(app, file, at_once).post()
-    refused = _declare(app, [row for row in rows if not is_bulk or row.user == me.name])
+        Posting(app, file, at_once, COLUMNS, by_itself).post()
+    refused = _declare(app, file, by_itself)
     done = len(rows) - len(refused)
-    app.emit({"rows": done, "refused": refused}, f"{done} rows done")
+    app.emit({"rows": done, "refused": refused}, f"{count_of(done, 'row')} done")
     if refused:
-        raise Partly(f"{len(refused)} of {len(rows)} rows were refused: " + "; ".join(
-            f"{file}, line {each['line']}: {each['error']}" for each in refused))
+        raise Partly(f"{count_of(len(refused), 'row')} refused")
 
 
-def _declare(app: App, rows: Sequence[Row]) -> list[dict[str, object]]:
+def _declare(app: App, file: Path, rows: Sequence[Row]) -> list[dict[str, object]]:
     """Declares conflicts one by one, and tells which were refused."""
     refused: list[dict[str, object]] = []
     for row in app.track(rows, "Declaring"):
@@ -58,4 +61,5 @@ def _declare(app: App, rows: Sequence[Row]) -> list[dict[str, object]]:
             app.client.declare(int(row.paper), row.user, row.action == "conflict")
         except Refusal as error:
             refused.append({"line": row.line, "paper": int(row.paper), "user": row.user, "error": error.name})
+            app.note(f"{file}, line {row.line}: {error.name}: {error.meaning()}")
     return refused

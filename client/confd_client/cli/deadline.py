@@ -8,6 +8,7 @@ import datetime
 import click
 
 from confd_client.cli.app import App, Command, pass_app
+from confd_client.cli.status import told_deadline
 
 WORK = ["submission", "bidding", "reviewing", "response", "discussion"]
 """The phases that may have a deadline."""
@@ -22,7 +23,8 @@ def _moment(_: click.Context, __: click.Parameter, text: str | None) -> datetime
     except ValueError as error:
         raise click.BadParameter(f"{text!r} is no time such as 2027-01-31T23:59:59Z") from error
     if moment.tzinfo is None:
-        raise click.BadParameter(f"{text!r} has no offset: write Z for UTC, or such as +01:00")
+        raise click.BadParameter(f"{text!r} has no time zone: write 2027-01-31T23:59:59Z for UTC, or such as +01:00 "
+                                 "in place of Z")
     return moment
 
 
@@ -31,7 +33,7 @@ def _moment(_: click.Context, __: click.Parameter, text: str | None) -> datetime
 @click.argument("until", required=False, callback=_moment)
 @pass_app
 def command(app: App, phase: str | None, until: datetime.datetime | str | None) -> None:
-    """Tells the deadlines, or sets that of PHASE to UNTIL, a time with its offset, or `none`.
+    """Tells the deadlines, or sets that of PHASE to UNTIL, a time with its time zone, or `none`.
 
     \b
     Examples:
@@ -41,9 +43,9 @@ def command(app: App, phase: str | None, until: datetime.datetime | str | None) 
     """
     if phase is None:
         deadlines = app.client.deadlines()
-        app.emit({"deadlines": deadlines}, [f"{each.phase} until {each.until}" for each in deadlines])
+        app.emit({"deadlines": deadlines}, [told_deadline(each) for each in deadlines] or "no deadlines")
         return
     if until is None:
         raise click.UsageError("until when? A time, or none")
     told = app.client.set_deadline(phase, until if isinstance(until, datetime.datetime) else None)
-    app.emit({"phase": told.phase, "until": told.until}, f"{told.phase} until {told.until or 'whenever'}")
+    app.emit({"phase": told.phase, "until": told.until}, told_deadline(told))

@@ -9,6 +9,7 @@ import click
 
 from confd_client.answers import Decision
 from confd_client.cli.app import App, Command, Partly, pass_app
+from confd_client.cli.status import count_of
 from confd_client.errors import Refusal
 from confd_client.tables import read_table
 
@@ -41,10 +42,10 @@ def command(app: App, file: Path) -> None:
             decided.append(app.client.decide(paper, decision))
         except Refusal as error:
             refused.append({"paper": paper, "error": error.name})
+            app.note(f"paper {paper}: {error.name}: {error.meaning()}")
     unchanged = len(wanted) - len(changes)
     left = sorted(paper for paper, decision in now.items() if decision is Decision.NONE and paper not in decided)
     app.emit({"decided": decided, "unchanged": unchanged, "refused": refused, "undecided": left},
-             f"{len(decided)} decided, {unchanged} left as they are, {len(left)} papers undecided")
+             f"{len(decided)} decided, {unchanged} left as they are, {count_of(len(left), 'paper')} undecided")
     if refused:
-        raise Partly(f"{len(refused)} of {len(wanted)} were refused: " + ", ".join(
-            f"paper {each['paper']}: {each['error']}" for each in refused))
+        raise Partly(f"{count_of(len(refused), 'decision')} refused")

@@ -14,7 +14,7 @@ from confd_client.cli.papers import last
 from confd_client.cli.status import count_of
 from confd_client.cli.texts import FOLDER, PAPER
 from confd_client.client import Client
-from confd_client.errors import NoContent, NoPaper
+from confd_client.errors import NoContent, NoPaper, meaning_of
 from confd_client.export import NOT_SHOWN, papers_of
 
 
@@ -56,7 +56,7 @@ def command(app: App, papers: tuple[int, ...], every: bool, version: int | None,
         if one.path is not None:
             app.note(f"{one.path}{'' if one.new else ': is there already'}")
         elif not every:
-            app.note(f"paper {number}: {one.error}")
+            app.note(f"paper {number}: {one.error}: {meaning_of(one.error or '')}")
         found.append(one)
     missing = sum(each.path is None for each in found)
     app.emit(found, f"{count_of(len(found) - missing, 'content')}, {sum(each.new for each in found)} new")

@@ -8,6 +8,7 @@ from pathlib import Path
 import click
 
 from confd_client.cli.app import App, Command, Partly, pass_app
+from confd_client.cli.status import count_of
 from confd_client.credentials import NAME
 from confd_client.errors import AlreadyInvited, Refusal
 from confd_client.tables import read_table
@@ -41,9 +42,9 @@ def command(app: App, file: Path) -> None:
             pass
         except Refusal as error:
             refused.append({"line": number, "paper": paper, "user": user, "error": error.name})
+            app.note(f"{file}, line {number}: {error.name}: {error.meaning()}")
     unchanged = len(wanted) - invited - len(refused)
     app.emit({"invited": invited, "unchanged": unchanged, "refused": refused},
              f"{invited} invited, {unchanged} were invited already")
     if refused:
-        raise Partly(f"{len(refused)} of {len(wanted)} were refused: " + "; ".join(
-            f"{file}, line {each['line']}: {each['error']}" for each in refused))
+        raise Partly(f"{count_of(len(refused), 'row')} refused")

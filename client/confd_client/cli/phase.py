@@ -34,8 +34,8 @@ def command(app: App, following: str | None, is_sure: bool) -> None:
         return
     wanted = Phase(following)
     if wanted not in may_follow(conference.phase):
-        raise click.UsageError(f"{wanted} doesn't follow {conference.phase}: it may be "
-                               f"{' or '.join(may_follow(conference.phase)) or 'none'}")
+        raise click.UsageError(f"{wanted} doesn't follow {conference.phase}: " + (
+            " or ".join(may_follow(conference.phase)) + " does" if may_follow(conference.phase) else "it is the last"))
     left = left_behind(take_status(app.client, app.track), wanted)
     for line in left:
         app.note(f"- {line}")

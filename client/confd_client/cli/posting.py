@@ -13,12 +13,13 @@ import hashlib
 import json
 import os
 import re
-from collections.abc import Sequence
+from collections.abc import Callable, Sequence
 from dataclasses import dataclass
 from pathlib import Path
 
 from confd_client.bulks import ACTIONS, HEADER, Row, bulk_text, pieces, shuffled
 from confd_client.cli.app import App, Partly
+from confd_client.cli.status import count_of
 from confd_client.credentials import NAME
 from confd_client.errors import BadFile, BulkRow, meaning_of
 from confd_client.tables import Line, read_table, write_table
@@ -32,7 +33,7 @@ class RowRefused(Partly):
     """The server refused a row of a file: the row at `line`, for `rule`. `done` is how many rows were done before."""
 
     def __init__(self, path: Path, line: int, rule: str, done: int, rest: str) -> None:
-        super().__init__(f"{path}, line {line}: {rule}: {meaning_of(rule)}; {done} rows were done{rest}")
+        super().__init__(f"{path}, line {line}: {rule}: {meaning_of(rule)}; {count_of(done, 'row')} done{rest}")
         self.path, self.line, self.rule, self.done = path, line, rule, done
 
     def details(self) -> dict[str, object]:
@@ -68,11 +69,27 @@ def checked_row(line: Line, row: Row) -> Row:
     return row
 
 
-class Posting:
-    """What is to be posted of a file, kept beside it until all is done; of standard input nothing is kept."""
+@dataclass(frozen=True)
+class Columns:
+    """How a command's file has its rows: the names of its columns, and the values of a row in them."""
 
-    def __init__(self, app: App, path: Path, rows: Sequence[Row]) -> None:
-        self.app, self.path, self.rows = app, path, rows
+    names: Sequence[str]
+    values: Callable[[Row], Sequence[str]]
+
+
+OF_ASSIGN = Columns(HEADER, lambda row: (row.paper, row.action, row.user, row.tag))
+
+
+class Posting:
+    """What is to be posted of a file, kept beside it until all is done; of standard input nothing is kept.
+
+    `columns` are the file's own, in which FILE.rest is written. `later` are rows that the caller sends by itself once
+    these are done.
+    """
+
+    def __init__(self, app: App, path: Path, rows: Sequence[Row], columns: Columns = OF_ASSIGN,
+                 later: Sequence[Row] = ()) -> None:
+        self.app, self.path, self.rows, self.columns, self.later = app, path, rows, columns, later
         self.kept = None if str(path) == "-" else path.with_name(path.name + ".sent")
         credentials = app.credentials()
         self.whose = f"{credentials.name if credentials else ''} {app.url}"
@@ -134,11 +151,13 @@ class Posting:
     def _refused(self, piece: Piece, refused: BulkRow) -> RowRefused:
         """The error for a row that was refused; what wasn't done stands in a file of its own then."""
         row = piece.rows[(refused.row or 1) - 1]
-        undone = sorted((row for each in self.pieces if not each.done for row in each.rows), key=lambda row: row.line)
+        undone = [row for each in self.pieces if not each.done for row in each.rows]
+        done = len(self.rows) - len(undone)
+        undone = sorted([*undone, *self.later], key=lambda row: row.line)
         told = ""
         if self.kept is not None:
             rest = self.path.with_name(self.path.name + ".rest")
-            write_table(rest, HEADER, [(each.paper, each.action, each.user, each.tag) for each in undone])
+            write_table(rest, self.columns.names, [self.columns.values(each) for each in undone])
             self.kept.unlink(missing_ok=True)
-            told = f"; the {len(undone)} others are in {rest}: mend them there, and hand in that"
-        return RowRefused(self.path, row.line, refused.rule or "", len(self.rows) - len(undone), told)
+            told = f", {len(undone)} not; those are in {rest}: mend that file and send it"
+        return RowRefused(self.path, row.line, refused.rule or "", done, told)

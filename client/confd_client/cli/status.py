@@ -57,10 +57,12 @@ def count_of(number: int, one: str, many: str | None = None) -> str:
     return f"{number} {one if number == 1 else many or one + 's'}"
 
 
-def _deadline(deadline: Deadline, now: datetime.datetime) -> str:
+def told_deadline(deadline: Deadline) -> str:
+    """A deadline as a reader has it, and whether it is over."""
     if deadline.until is None:
-        return ""
-    return f"{deadline.phase} until {deadline.until:%Y-%m-%d %H:%M:%S} UTC{' (over)' if deadline.until < now else ''}"
+        return f"{deadline.phase} without a deadline"
+    over = " (over)" if deadline.until < datetime.datetime.now(datetime.UTC) else ""
+    return f"{deadline.phase} until {deadline.until:%Y-%m-%d %H:%M:%S} UTC{over}"
 
 
 def shown(app: App, status: Status, show_all: bool) -> Iterable[RenderableType]:
@@ -69,9 +71,8 @@ def shown(app: App, status: Status, show_all: bool) -> Iterable[RenderableType]:
     chairs = ", ".join(account.name for account in status.committee if account.role is Role.CHAIR)
     yield (f"Phase {conference.phase}, mode {conference.mode}; {count_of(conference.papers, 'paper')}, "
            f"{count_of(status.accounts, 'account')}, {len(status.committee)} on the committee (chairs: {chairs})")
-    now = datetime.datetime.now(datetime.UTC)
     for deadline in status.deadlines:
-        yield f"Deadline: {_deadline(deadline, now)}"
+        yield f"Deadline: {told_deadline(deadline)}"
     if conference.phase.place < Phase.BIDDING.place:
         return
     yield from _papers(app, status, show_all)
