@@ -455,9 +455,6 @@ module _ (log : History) (pending : List Row) (begun : History) (row : Row) (nex
 
   -- ---- a row with more behind it
 
-  last_tag : List ℕ
-  last_tag = 97 ∷ []
-
   clear : OnClear t stamp.maker
   clear = by before.entries all_bounded drawn
     where
