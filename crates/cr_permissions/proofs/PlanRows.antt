@@ -1,13 +1,14 @@
 -- The rows that assign the pairs of a plan, one after another, by the tables: each is accepted behind those before it.
 use Rattle.std.proofs.Common.{ℕ, Bool, true, false, cond, eqb, ◌≡◌, ◌≤◌, ◌+◌, ◌&&◌, ◌||◌, List, [], ◌∷◌, length, map}
 use Rattle.std.proofs.Common.{count_by, refl, sym, ap, subst, ◌∙◌, arith, Option, Some, None, Result, Ok, Err}
-use Rattle.std.specs.Prelude.{decimal, is_some, not, nat_le, IsOk}
+use Rattle.std.specs.Prelude.{decimal, is_some, not, nat_le, unwrap_or, IsOk}
 use Rattle.std.specs.List.{AllByRecursion, list_any}
 use Rattle.std.specs.Option.{option_map}
 use Rattle.std.proofs.lemmas.Bool.{eq-eqb}
 use Rattle.std.proofs.lemmas.Bool.Decides.{nat_tests}
 use Rattle.std.proofs.lemmas.List.Sums.{sum_by-cons}
 use Rattle.cr_base.specs.declared.bulk.Broken.{Broken}
+use Rattle.cr_base.specs.declared.command.Command.TheVariants.{Assign}
 use Rattle.cr_base.specs.declared.entry.Entry.{Entry}
 use Rattle.cr_base.specs.declared.entry.Entry.TheVariants.{Assigned}
 use Rattle.cr_base.specs.declared.entry.Stamp.{Stamp}
@@ -20,9 +21,9 @@ use Rattle.cr_base.specs.Bulk.{and_behind, and_rows, row_judged, row_told_judged
 use Rattle.cr_base.specs.declared.retry.RetryKey.{RetryKey}
 use Rattle.cr_base.specs.Calls.{stamp_by}
 use Rattle.cr_base.specs.Checks.{Check, assign_checks, judged}
-use Rattle.cr_base.specs.Drawn.{Drawn, assignment_drawn}
+use Rattle.cr_base.specs.Drawn.{Drawn, alone}
 use Rattle.cr_base.specs.History.{History, SeatTold}
-use Rattle.cr_base.specs.Judging.{assignment_judged}
+use Rattle.cr_base.specs.Judging.{judge_by}
 use Rattle.cr_base.specs.Invites.{is_invited_in}
 use Rattle.cr_base.specs.Lists.{given, is_number, last_or}
 use Rattle.cr_base.specs.Pairs.{users_tied_to}
@@ -31,7 +32,8 @@ use Rattle.cr_base.specs.Parse.{parse_name, parse_paper}
 use Rattle.cr_base.specs.Phases.{committee_works}
 use Rattle.cr_base.specs.Plans.{PlanPair, is_of_paper}
 use Rattle.cr_base.specs.Seats.{SeatsFit, SeatsInOrder, SeatsState, labels_in, ordinal_in, seats_after}
-use Rattle.cr_base.specs.Sources.{Facts, Shown, facts_of_tables, paper_named, role_among, shown_in_tables, user_among}
+use Rattle.cr_base.specs.Sources.{Facts, Shown, facts_of_tables, paper_named, role_among, shown_in_tables, target_named}
+use Rattle.cr_base.specs.Sources.{user_among}
 use Rattle.cr_base.specs.Tables.{Tables, tables_from}
 use Rattle.cr_base.specs.Ties.{authors_in, is_conflicted_in}
 use Rattle.cr_base.specs.Words.{is_chair, is_member}
@@ -153,23 +155,25 @@ module _ (user at : ℕ) (key : Option RetryKey) (t : Tables) where
 
     row-taken : (seats : SeatsState) (e : PlanPair) → Takes seats e
         → row_judged (facts seats) (shown seats) stamp (row_of_pair e)
-        ≡ Ok (assignment_drawn stamp e.paper e.member.user Pc (labels_in seats e.paper + 1))
+        ≡ Ok (alone stamp (entry_of seats e))
     row-taken seats e takes =
         let s = takes.stays in
         ap (row_told_judged (facts seats) (shown seats) stamp)
         (rows_as_said.pcreview (decimal e.paper) e.member.name [])
-        ∙ (λ i. assignment_judged (facts seats) (shown seats) stamp (s.paper i)
-        (user_among (lines_of t.accounts) (s.name i)) Pc)
-        ∙ ap (λ (v : Option ℕ). assignment_judged (facts seats) (shown seats) stamp (Some e.paper) v Pc) s.found
-        ∙ ap (λ (role : Option Role). judged (checks (option_map (target seats e) role)) drawn) s.role
-        ∙ judged-none (checks (Some (target seats e e.member.role))) drawn (none-broken seats e takes)
+        ∙ (λ i. judge_by (facts seats) (shown seats) stamp (Assign (s.paper i) (s.name i) Pc))
+        ∙ ap
+        (λ (v : Option ℕ). judged
+        (checks (target_named (facts seats) (shown seats) (Some user) (Some e.paper) v))
+        (alone stamp (Assigned e.paper (unwrap_or v 0) Pc (labels_in seats e.paper + 1)))) s.found
+        ∙ ap
+        (λ (role : Option Role). judged (checks (option_map (target seats e) role)) (alone stamp (entry_of seats e)))
+        s.role
+        ∙ judged-none (checks (Some (target seats e e.member.role))) (alone stamp (entry_of seats e))
+        (none-broken seats e takes)
       where
         checks : Option Target → List Check
         checks named = assign_checks ((facts seats).standing (Some e.paper))
             (paper_named (facts seats) (shown seats) (Some e.paper)) named (labels_in seats e.paper)
-
-        drawn : Drawn
-        drawn = assignment_drawn stamp e.paper e.member.user Pc (labels_in seats e.paper + 1)
 
     -- ---- all rows
 

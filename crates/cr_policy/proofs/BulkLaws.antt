@@ -19,18 +19,18 @@ use Rattle.cr_base.specs.Bulk.{command_told_by, row_command, turns_own_conflict,
 use Rattle.cr_base.specs.Bulk.{entries_of, and_rows, and_behind, rows_judged, bulk_checks, bulk_drawn, bulk_of_rows}
 use Rattle.cr_base.specs.Bulk.{bulk_behind, tables_basis, bulk_by_role}
 use Rattle.cr_base.specs.Calls.{BulkCall, call_by}
-use Rattle.cr_base.specs.Checks.{judged, conflict_checks, assign_checks, unassign_checks, tag_checks}
-use Rattle.cr_base.specs.Drawn.{stamped, Drawn, grouped, conflict_drawn, assignment_drawn, unassignment_drawn}
-use Rattle.cr_base.specs.Drawn.{tag_drawn}
+use Rattle.cr_base.specs.Checks.{judged}
+use Rattle.cr_base.specs.Deeds.{Deed, deed_at, drawn_by}
+use Rattle.cr_base.specs.Drawn.{stamped, Drawn, grouped}
 use Rattle.cr_base.specs.History.{History}
 use Rattle.cr_base.specs.Judging.{judge_by}
-use Rattle.cr_base.specs.Lists.{at_some, is_number}
+use Rattle.cr_base.specs.Lists.{is_number}
 use Rattle.cr_base.specs.Parse.{parse_paper}
-use Rattle.cr_base.specs.Sources.{Facts, Shown, user_among, paper_named, target_named, is_late, facts_of_tables}
+use Rattle.cr_base.specs.Sources.{Facts, Shown, user_among, target_named, facts_of_tables}
 use Rattle.cr_base.specs.Sources.{shown_in_tables}
 use Rattle.cr_base.specs.Tables.{Tables, tables_of, tables_from, Fits, FitInTurn}
-use Rattle.cr_base.specs.TagTexts.{is_tag, is_for_chairs}
-use Rattle.cr_base.proofs.CheckLaws.{judged-Ok}
+use Rattle.cr_base.specs.TagTexts.{is_tag}
+use Rattle.cr_base.proofs.CheckLaws.{NoneBroken, judged-Ok}
 use Rattle.cr_history.specs.Groups.{IsRuled, IsBoundedStamp, StandsAlone, Adds, single, submitted, first_user, Grows}
 use Rattle.cr_history.specs.Groups.{adds, goes_on}
 use Rattle.cr_history.specs.Invariants.{IsRegistered, IsMadeByUser, Invariants}
@@ -97,55 +97,46 @@ pub record RowDraws (stamp : Stamp) (drawn : Drawn) : Type 0 where
   pub of_row : LeavesStanding stamp.maker entry
 
 module _ (facts : Facts) (shown : Shown) (stamp : Stamp) where
-  drawn-alone : (e : Entry) (draws drawn : Drawn) → draws.group ≡ grouped stamp (e ∷ []) → LeavesStanding stamp.maker e
-      → draws ≡ drawn → RowDraws stamp drawn
-  drawn-alone e draws drawn group of_row is =
-      record { entry = e; group = ap (λ (d : Drawn). d.group) (sym is) ∙ group; of_row = of_row }
+  abbrev deed_of : Command → Deed
+  deed_of command = deed_at facts shown stamp command
 
-  -- a stamp.maker is named, and she isn't the caller
+  -- one entry, which leaves how its maker stands
+  abbrev LeavesOne : List Entry → Type 0
+  LeavesOne (e ∷ []) = LeavesStanding stamp.maker e
+  LeavesOne entries = ⊥
+
+  -- a user is named, and she isn't the caller
   other-named : (paper target : Option ℕ) → is_none (target_named facts shown (Some stamp.maker) paper target) ≡ false
       → is_number target stamp.maker ≡ false
       → eqb (unwrap_or target 0) stamp.maker ≡ false
   other-named paper None there other = absurd (true≢false there)
   other-named paper (Some v) there other = other
 
+  -- a row's command, where no rule is broken, makes such
+  row-leaves : (command : Command) → IsRowCommand command → turns_own_conflict facts stamp.maker command ≡ false
+      → NoneBroken (deed_of command).checks
+      → ((deed_of command).maker ≡ stamp.maker) × LeavesOne (deed_of command).entries
+  row-leaves (SetConflict paper name on) of_row other none =
+      (refl, other-named paper (user_among facts.accounts name) none.1.0 other)
+  row-leaves (Assign paper name kind) of_row other none = (refl, tt)
+  row-leaves (Unassign paper name) of_row other none = (refl, tt)
+  row-leaves (Tag paper tag on) of_row other none = (refl, tt)
+  row-leaves command of_row other none = absurd of_row
+
   pub row-draws : (command : Command) (drawn : Drawn) → IsRowCommand command
       → turns_own_conflict facts stamp.maker command ≡ false
       → judge_by facts shown stamp command ≡ Ok drawn → RowDraws stamp drawn
-  row-draws (SetConflict paper name on) drawn told other accepted =
-      let target : Option ℕ = user_among facts.accounts name in
-      let draws : Drawn = conflict_drawn stamp (unwrap_or paper 0) (unwrap_or target 0) on in
-      let k = judged-Ok
-      (conflict_checks (facts.standing paper) (paper_named facts shown paper)
-      (target_named facts shown (Some stamp.maker) paper target) on (is_late facts stamp.at))
-      draws drawn accepted in
-      drawn-alone (entries.Conflict (unwrap_or paper 0) (unwrap_or target 0) on) draws drawn refl
-      (other-named paper target k.0.1.0 other) k.1
-  row-draws (Assign paper name kind) drawn told other accepted =
-      let target : Option ℕ = user_among facts.accounts name in
-      let labels : ℕ = shown.labels (unwrap_or paper 0) in
-      let draws : Drawn = assignment_drawn stamp (unwrap_or paper 0) (unwrap_or target 0) kind (labels + 1) in
-      let k =
-      judged-Ok (assign_checks (facts.standing paper) (paper_named facts shown paper)
-      (target_named facts shown (Some stamp.maker) paper target) labels)
-      draws drawn accepted in
-      drawn-alone (entries.Assigned (unwrap_or paper 0) (unwrap_or target 0) kind (labels + 1)) draws drawn refl tt k.1
-  row-draws (Unassign paper name) drawn told other accepted =
-      let target : Option ℕ = user_among facts.accounts name in
-      let p : ℕ = unwrap_or paper 0 in
-      let seat : Option ℕ = shown.ordinal target p in
-      let draws : Drawn = unassignment_drawn stamp p (unwrap_or target 0) (unwrap_or seat 0) in
-      let k =
-      judged-Ok (unassign_checks (facts.standing paper) (paper_named facts shown paper)
-      (target_named facts shown (Some stamp.maker) paper target)
-      (at_some (shown.written p) seat)) draws drawn accepted in
-      drawn-alone (entries.Unassigned p (unwrap_or target 0) (unwrap_or seat 0)) draws drawn refl tt k.1
-  row-draws (Tag paper tag on) drawn told other accepted =
-      let draws : Drawn = tag_drawn stamp (unwrap_or paper 0) tag on in
-      let k = judged-Ok (tag_checks (facts.standing paper) (paper_named facts shown paper) (is_for_chairs tag)) draws
-      drawn accepted in
-      drawn-alone (entries.Tagged (unwrap_or paper 0) tag on) draws drawn refl tt k.1
-  row-draws command drawn told other accepted = absurd told
+  row-draws command drawn of_row other accepted =
+      let d : Deed = deed_of command in
+      let k = judged-Ok d.checks (drawn_by stamp d) drawn accepted in
+      let leaves = row-leaves command of_row other k.0 in
+      by d.entries (sym (ap (λ (x : Drawn). x.group) k.1)
+      ∙ ap (λ (m : ℕ). grouped (record stamp { maker = m }) d.entries) leaves.0) leaves.1
+    where
+      by : (es : List Entry) → drawn.group ≡ grouped stamp es → LeavesOne es → RowDraws stamp drawn
+      by [] is leaves = absurd leaves
+      by (e ∷ []) is leaves = record { entry = e; group = is; of_row = leaves }
+      by (e ∷ next ∷ es) is leaves = absurd leaves
 
 -- ---- by the rules, on a history
 

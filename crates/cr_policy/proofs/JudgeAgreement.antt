@@ -8,22 +8,25 @@ use Rattle.std.proofs.lemmas.Bool.{and_parts, not-false, or_left, or_right, true
 use Rattle.std.proofs.lemmas.Bool.Decides.{nat_tests}
 use Rattle.cr_base.specs.declared.command.Call.{Call}
 use Rattle.cr_base.specs.declared.command.Command.{Command}
+use Rattle.cr_base.specs.declared.entry.Entry.TheVariants as entries
+use Rattle.cr_base.specs.declared.entry.Entry.TheVariants.{Revised, Uploaded, Withdrawn, Conflict, Assigned, Unassigned}
+use Rattle.cr_base.specs.declared.entry.Entry.TheVariants.{Reviewed, Commented, Tagged, Decided, Invited, Uninvited}
+use Rattle.cr_base.specs.declared.entry.Entry.TheVariants.{Responded}
 use Rattle.cr_base.specs.declared.entry.Stamp.{Stamp}
 use Rattle.cr_base.specs.declared.command.Command.TheVariants as commands
 use Rattle.cr_base.specs.declared.reply.Rule.{Rule}
 use Rattle.cr_base.specs.declared.reply.Rule.TheVariants as rules
 use Rattle.cr_base.specs.declared.standing.Standing.{Standing}
 use Rattle.cr_base.specs.declared.target.Target.{Target}
-use Rattle.cr_base.specs.declared.words.Kind.{Kind}
 use Rattle.cr_base.specs.declared.words.Phase.{Phase}
 use Rattle.cr_base.specs.declared.words.Phase.TheVariants.{Bidding, Reviewing, Discussion, Notification}
 use Rattle.cr_base.specs.declared.words.Role.{Role}
 use Rattle.cr_base.specs.declared.words.Role.TheVariants.{Account, Member, Chair}
 use Rattle.cr_base.specs.Calls.{stamp_of}
 use Rattle.cr_base.specs.Checks.{Check, ◌breaks◌, judged, declare_checks, own_checks, other_checks, off_checks}
-use Rattle.cr_base.specs.Checks.{conflict_case, conflict_checks, bid_checks, reviewer_checks, assign_checks}
-use Rattle.cr_base.specs.Checks.{unassign_checks, review_checks, respond_checks, comment_checks, tag_checks}
-use Rattle.cr_base.specs.Checks.{decide_checks, invite_checks, uninvite_checks, is_of_paper}
+use Rattle.cr_base.specs.Checks.{conflict_case, conflict_checks, bid_checks, reviewer_checks}
+use Rattle.cr_base.specs.Checks.{review_checks, respond_checks, comment_checks, tag_checks}
+use Rattle.cr_base.specs.Checks.{decide_checks, is_of_paper, target_is, target_role}
 use Rattle.cr_base.specs.Lists.{at_some, is_number}
 use Rattle.cr_base.specs.History.{History, Upload}
 use Rattle.cr_base.specs.Page.{is_admitted, is_clear_external, is_clear_member, is_clear_chair, reads_paper}
@@ -34,12 +37,10 @@ use Rattle.cr_base.specs.Phases.{responses_are_written, comments_are_written, de
 use Rattle.cr_base.specs.Tables.{tables_of}
 use Rattle.cr_base.specs.TagTexts.{is_for_chairs}
 use Rattle.cr_base.specs.Words.{is_anonymous, is_member, is_chair}
-use Rattle.cr_base.specs.Drawn.{Drawn, revision_drawn, upload_drawn, withdrawal_drawn, conflict_drawn, bid_drawn}
-use Rattle.cr_base.specs.Drawn.{assignment_drawn, unassignment_drawn, review_drawn, response_drawn, comment_drawn}
-use Rattle.cr_base.specs.Drawn.{tag_drawn, decision_drawn, invitation_drawn, uninvitation_drawn}
-use Rattle.cr_base.specs.Judging.{conflict_judged, assignment_judged, unassignment_judged, invitation_judged}
-use Rattle.cr_base.specs.Judging.{uninvitation_judged, judge_by, judge_by_role}
-use Rattle.cr_base.specs.Sources.{Facts, Shown, user_among, role_among, has_paper, paper_named, standing_at}
+use Rattle.cr_base.specs.Drawn.{Drawn, alone}
+use Rattle.cr_base.specs.Judging.{judge_by, judge_by_role}
+use Rattle.cr_base.specs.Sources.{Facts, Shown, user_among, role_among, has_paper, paper_named, target_named}
+use Rattle.cr_base.specs.Sources.{standing_at}
 use Rattle.cr_base.specs.Sources.{is_accepted_in, is_late, facts_of_tables, shown_in_tables}
 use Rattle.cr_base.proofs.CheckLaws.{NoneBroken, judged-behind, asked-behind}
 use Rattle.cr_history.specs.Invariants.{Invariants}
@@ -302,10 +303,18 @@ module _ (facts : Facts) (shown tabled : Shown) (same : Agree facts shown tabled
           ∷ withdrawn breaks rules.Withdrawn
           ∷ is_some response breaks rules.AlreadyResponded ∷ []
 
+-- what is judged of a conflict of this user's, if there is one, by what is shown
+abbrev judged_of : Facts → Stamp → Option ℕ → Option ℕ → Bool → Shown → Result Drawn Rule
+judged_of facts stamp paper target on source =
+    judged
+    (conflict_checks (facts.standing paper) (paper_named facts source paper)
+    (target_named facts source (Some stamp.maker) paper target) on (is_late facts stamp.at))
+    (alone stamp (Conflict (unwrap_or paper 0) (unwrap_or target 0) on))
+
 -- and matters to a conflict's judgement no further
 conflict-same : (facts : Facts) (shown tabled : Shown) (stamp : Stamp) (paper target : Option ℕ) (on : Bool)
     → Agree facts shown tabled
-    → conflict_judged facts shown stamp paper target on ≡ conflict_judged facts tabled stamp paper target on
+    → judged_of facts stamp paper target on shown ≡ judged_of facts stamp paper target on tabled
 conflict-same facts shown tabled stamp None target on same = refl
 conflict-same facts shown tabled stamp (Some p) target on same = by (role_among facts.accounts target)
   where
@@ -313,7 +322,7 @@ conflict-same facts shown tabled stamp (Some p) target on same = by (role_among 
     standing = facts.standing (Some p)
 
     drawn : Drawn
-    drawn = conflict_drawn stamp p (unwrap_or target 0) on
+    drawn = alone stamp (Conflict p (unwrap_or target 0) on)
 
     bidding : Bool
     bidding = authors_have_declared standing.phase
@@ -477,7 +486,7 @@ module _ (facts : Facts) (shown tabled : Shown) (same : Agree facts shown tabled
 -- is drawn from, whether a form is under hers, and whether she is invited
 record Asked : Type 0 where
   withdrawn : Bool
-  user : Target
+  user : Option Target
   ordinal : Option ℕ
   labels : ℕ
   written : Bool
@@ -489,21 +498,21 @@ module _ (facts : Facts) (shown tabled : Shown) (same : Agree facts shown tabled
   abbrev chair : Standing
   chair = facts.standing (Some p)
 
-  abbrev asked_of : Shown → Role → Asked
+  abbrev asked_of : Shown → Option Role → Asked
   asked_of source role =
       let wrote : Bool = list_any (is_number target) (source.authors p) in
       let declared : Bool = list_any (is_number target) (source.conflicts p) in
       record {
         withdrawn = source.withdrawn p;
-        user = named role (is_number target stamp.maker) wrote (wrote || declared) (is_some (source.ordinal target p))
-            (not (is_member role) && source.invited target p);
+        user = option_map (λ (r : Role). named r (is_number target stamp.maker) wrote (wrote || declared)
+            (is_some (source.ordinal target p)) (not (is_member r) && source.invited target p)) role;
         ordinal = source.ordinal target p;
         labels = source.labels p;
         written = at_some (source.written p) (source.ordinal target p);
         invited = source.invited target p;
       }
 
-  asked-same : (drawn : Drawn) (role : Role) → not (is_chair chair.role) ≡ false → chair.conflicted ≡ false
+  asked-same : (drawn : Drawn) (role : Option Role) → not (is_chair chair.role) ≡ false → chair.conflicted ≡ false
       → not (committee_works chair.phase) ≡ false
       → asked_of shown role ≡ asked_of tabled role
   asked-same drawn role h clear in_time =
@@ -517,148 +526,97 @@ module _ (facts : Facts) (shown tabled : Shown) (same : Agree facts shown tabled
       let invited = same.invited p told target in
       λ i. record {
         withdrawn = withdrawn i;
-        user = named role (is_number target stamp.maker) (wrote i) (wrote i || declared i) (is_some (ordinal i))
-            (not (is_member role) && invited i);
+        user = option_map (λ (r : Role). named r (is_number target stamp.maker) (wrote i) (wrote i || declared i)
+            (is_some (ordinal i)) (not (is_member r) && invited i)) role;
         ordinal = ordinal i;
         labels = labels i;
         written = at_some (λ o. same.written p told o i) (ordinal i);
         invited = invited i;
       }
 
-  -- so are the checks on an assignment, and those on taking a reviewer off
-  reviewer-same : (role : Role) (more : Asked → List Check) (drawn : Asked → Drawn)
-      → judged (reviewer_checks chair (paper_named facts shown (Some p)) (Some (asked_of shown role).user)
-      ++ more (asked_of shown role))
-      (drawn (asked_of shown role))
-      ≡ judged (reviewer_checks chair (paper_named facts tabled (Some p)) (Some (asked_of tabled role).user)
-      ++ more (asked_of tabled role))
-      (drawn (asked_of tabled role))
-  reviewer-same role more drawn =
-      judged-behind
-      (not (has_paper facts (Some p)) breaks rules.NoPaper ∷ false breaks rules.NoUser ∷ not (is_chair chair.role)
-      breaks rules.NotChair
-      ∷ chair.conflicted breaks rules.Conflict ∷ not (committee_works chair.phase) breaks rules.WrongPhase ∷ [])
-      (behind (asked_of shown role)) (behind (asked_of tabled role)) (drawn (asked_of shown role))
-      (drawn (asked_of tabled role))
-      (λ none. ap (λ (asked : Asked). judged (behind asked) (drawn asked))
-      (asked-same (drawn (asked_of shown role)) role none.1.1.0 none.1.1.1.0 none.1.1.1.1.0))
+  -- what is judged of the user named, with further rules behind those on every reviewer
+  abbrev reviewer_judged : (Asked → List Check) → (Asked → Drawn) → Shown → Option Role → Result Drawn Rule
+  reviewer_judged more drawn source role =
+      judged (reviewer_checks chair (paper_named facts source (Some p)) (asked_of source role).user
+      ++ more (asked_of source role)) (drawn (asked_of source role))
+
+  -- so are the checks on an assignment and on an invitation, and those on taking them back
+  reviewer-same : (more : Asked → List Check) (drawn : Asked → Drawn)
+      → reviewer_judged more drawn shown (role_among facts.accounts target)
+      ≡ reviewer_judged more drawn tabled (role_among facts.accounts target)
+  reviewer-same more drawn = by (role_among facts.accounts target)
     where
       behind : Asked → List Check
       behind asked = asked.withdrawn breaks rules.Withdrawn ∷ more asked
 
-  assign-same : (kind : Kind) → assignment_judged facts shown stamp (Some p) target kind ≡ assignment_judged facts
-      tabled stamp (Some p) target kind
-  assign-same kind = by (role_among facts.accounts target)
-    where
-      judged_by : Shown → Option Role → Result Drawn Rule
-      judged_by source role =
-          judged
-          (assign_checks chair (paper_named facts source (Some p))
-          (option_map (λ (r : Role). (asked_of source r).user) role) (source.labels p))
-          (assignment_drawn stamp p (unwrap_or target 0) kind (source.labels p + 1))
-
-      by : (role : Option Role) → judged_by shown role ≡ judged_by tabled role
+      by : (role : Option Role) → reviewer_judged more drawn shown role ≡ reviewer_judged more drawn tabled role
       by None = refl
       by (Some role) =
-          reviewer-same role
-          (λ asked. not (is_of_paper asked.user) breaks rules.NotAMember ∷ asked.user.conflicted breaks
-          rules.TargetConflict
-          ∷ asked.user.reviewer breaks rules.AlreadyAssigned ∷ nat_le 26 asked.labels breaks rules.LabelsSpent ∷ [])
-          (λ asked. assignment_drawn stamp p (unwrap_or target 0) kind (asked.labels + 1))
-
-  unassign-same : unassignment_judged facts shown stamp (Some p) target ≡ unassignment_judged facts tabled stamp
-      (Some p) target
-  unassign-same = by (role_among facts.accounts target)
-    where
-      judged_by : Shown → Option Role → Result Drawn Rule
-      judged_by source role =
-          judged
-          (unassign_checks chair (paper_named facts source (Some p))
-          (option_map (λ (r : Role). (asked_of source r).user) role)
-          (at_some (source.written p) (source.ordinal target p)))
-          (unassignment_drawn stamp p (unwrap_or target 0) (unwrap_or (source.ordinal target p) 0))
-
-      by : (role : Option Role) → judged_by shown role ≡ judged_by tabled role
-      by None = refl
-      by (Some role) =
-          reviewer-same role (λ asked. not asked.user.reviewer breaks rules.NotAssigned
-          ∷ asked.written breaks rules.HasReview ∷ [])
-          (λ asked. unassignment_drawn stamp p (unwrap_or target 0) (unwrap_or asked.ordinal 0))
-
-  -- those on an invitation, and on its end
-  invite-same : invitation_judged facts shown stamp (Some p) target ≡ invitation_judged facts tabled stamp (Some p)
-      target
-  invite-same = by (role_among facts.accounts target)
-    where
-      judged_by : Shown → Option Role → Result Drawn Rule
-      judged_by source role =
-          judged
-          (invite_checks chair (paper_named facts source (Some p))
-          (option_map (λ (r : Role). (asked_of source r).user) role) (source.invited target p))
-          (invitation_drawn stamp p (unwrap_or target 0))
-
-      by : (role : Option Role) → judged_by shown role ≡ judged_by tabled role
-      by None = refl
-      by (Some role) =
-          reviewer-same role
-          (λ asked. is_member asked.user.role breaks rules.IsMember ∷ asked.user.conflicted breaks rules.TargetConflict
-          ∷ asked.invited breaks rules.AlreadyInvited ∷ [])
-          (λ asked. invitation_drawn stamp p (unwrap_or target 0))
-
-  uninvite-same : uninvitation_judged facts shown stamp (Some p) target ≡ uninvitation_judged facts tabled stamp
-      (Some p) target
-  uninvite-same = by (role_among facts.accounts target)
-    where
-      judged_by : Shown → Option Role → Result Drawn Rule
-      judged_by source role =
-          judged
-          (uninvite_checks chair (paper_named facts source (Some p))
-          (option_map (λ (r : Role). (asked_of source r).user) role) (source.invited target p))
-          (uninvitation_drawn stamp p (unwrap_or target 0))
-
-      by : (role : Option Role) → judged_by shown role ≡ judged_by tabled role
-      by None = refl
-      by (Some role) =
-          reviewer-same role (λ asked. not asked.invited breaks rules.NotInvited ∷ asked.user.reviewer breaks
-          rules.StillAssigned ∷ [])
-          (λ asked. uninvitation_drawn stamp p (unwrap_or target 0))
+          judged-behind
+          (not (has_paper facts (Some p)) breaks rules.NoPaper ∷ false breaks rules.NoUser ∷ not (is_chair chair.role)
+          breaks rules.NotChair
+          ∷ chair.conflicted breaks rules.Conflict ∷ not (committee_works chair.phase) breaks rules.WrongPhase ∷ [])
+          (behind (asked_of shown (Some role))) (behind (asked_of tabled (Some role)))
+          (drawn (asked_of shown (Some role)))
+          (drawn (asked_of tabled (Some role)))
+          (λ none. ap (λ (asked : Asked). judged (behind asked) (drawn asked))
+          (asked-same (drawn (asked_of shown (Some role))) (Some role) none.1.1.0 none.1.1.1.0 none.1.1.1.1.0))
 
 -- so what is shown makes no other judgement than what the tables hold
 command-same : (facts : Facts) (shown tabled : Shown) (stamp : Stamp) (command : Command) → Agree facts shown tabled
     → judge_by facts shown stamp command
     ≡ judge_by facts tabled stamp command
 command-same facts shown tabled stamp (commands.Revise (Some p) title abstract) same =
-    author-same facts shown tabled same p (is_late facts stamp.at) [] (λ _. revision_drawn stamp p title abstract)
+    author-same facts shown tabled same p (is_late facts stamp.at) [] (λ _. alone stamp (Revised p title abstract))
 command-same facts shown tabled stamp (commands.Upload (Some p) content) same =
     author-same facts shown tabled same p (is_late facts stamp.at)
     (nat_lt 67108864 (facts.own_bytes + length content) breaks rules.QuotaBytes ∷ [])
-    (λ uploads. upload_drawn stamp p (length uploads + 1) content)
+    (λ uploads. alone stamp (Uploaded p (length uploads + 1) content))
 command-same facts shown tabled stamp (commands.Withdraw (Some p)) same =
-    author-same facts shown tabled same p (is_late facts stamp.at) [] (λ _. withdrawal_drawn stamp p)
+    author-same facts shown tabled same p (is_late facts stamp.at) [] (λ _. alone stamp (Withdrawn p))
 command-same facts shown tabled stamp (commands.SetConflict paper name on) same =
     conflict-same facts shown tabled stamp paper (user_among facts.accounts name) on same
 command-same facts shown tabled stamp (commands.Bid (Some p) value) same =
-    bid-same facts shown tabled same p (is_late facts stamp.at) (bid_drawn stamp p value)
+    bid-same facts shown tabled same p (is_late facts stamp.at) (alone stamp (entries.Bid p value))
 command-same facts shown tabled stamp (commands.Assign (Some p) name kind) same =
-    assign-same facts shown tabled same stamp p (user_among facts.accounts name) kind
+    let target : Option ℕ = user_among facts.accounts name in
+    reviewer-same facts shown tabled same stamp p target
+    (λ asked. not (target_is is_of_paper asked.user) breaks rules.NotAMember
+    ∷ target_is (λ (user : Target). user.conflicted) asked.user breaks rules.TargetConflict
+    ∷ target_is (λ (user : Target). user.reviewer) asked.user breaks rules.AlreadyAssigned
+    ∷ nat_le 26 asked.labels breaks rules.LabelsSpent ∷ [])
+    (λ asked. alone stamp (Assigned p (unwrap_or target 0) kind (asked.labels + 1)))
 command-same facts shown tabled stamp (commands.Unassign (Some p) name) same =
-    unassign-same facts shown tabled same stamp p (user_among facts.accounts name)
+    let target : Option ℕ = user_among facts.accounts name in
+    reviewer-same facts shown tabled same stamp p target
+    (λ asked. not (target_is (λ (user : Target). user.reviewer) asked.user) breaks rules.NotAssigned
+    ∷ asked.written breaks rules.HasReview ∷ [])
+    (λ asked. alone stamp (Unassigned p (unwrap_or target 0) (unwrap_or asked.ordinal 0)))
 command-same facts shown tabled stamp (commands.Invite (Some p) name) same =
-    invite-same facts shown tabled same stamp p (user_among facts.accounts name)
+    let target : Option ℕ = user_among facts.accounts name in
+    reviewer-same facts shown tabled same stamp p target
+    (λ asked. is_member (target_role asked.user) breaks rules.IsMember
+    ∷ target_is (λ (user : Target). user.conflicted) asked.user breaks rules.TargetConflict
+    ∷ asked.invited breaks rules.AlreadyInvited ∷ [])
+    (λ asked. alone stamp (Invited p (unwrap_or target 0)))
 command-same facts shown tabled stamp (commands.Uninvite (Some p) name) same =
-    uninvite-same facts shown tabled same stamp p (user_among facts.accounts name)
+    let target : Option ℕ = user_among facts.accounts name in
+    reviewer-same facts shown tabled same stamp p target
+    (λ asked. not asked.invited breaks rules.NotInvited
+    ∷ target_is (λ (user : Target). user.reviewer) asked.user breaks rules.StillAssigned ∷ [])
+    (λ asked. alone stamp (Uninvited p (unwrap_or target 0)))
 command-same facts shown tabled stamp (commands.Review (Some p) form) same =
     review-same facts shown tabled same p (is_late facts stamp.at)
-    (review_drawn stamp p (unwrap_or (facts.own_ordinal p) 0) (length (facts.own_forms p) + 1) form)
+    (alone stamp (Reviewed p (unwrap_or (facts.own_ordinal p) 0) (length (facts.own_forms p) + 1) form))
 command-same facts shown tabled stamp (commands.Respond (Some p) text) same =
-    respond-same facts shown tabled same p (is_late facts stamp.at) (response_drawn stamp p text)
+    respond-same facts shown tabled same p (is_late facts stamp.at) (alone stamp (Responded p text))
 command-same facts shown tabled stamp (commands.Comment (Some p) text) same =
     comment-same facts shown tabled same p facts.own_comments (is_late facts stamp.at)
-    (λ n. comment_drawn stamp p (n + 1) (facts.own_ordinal p) text)
+    (λ n. alone stamp (Commented p (n + 1) (facts.own_ordinal p) text))
 command-same facts shown tabled stamp (commands.Tag (Some p) tag on) same =
-    tag-same facts shown tabled same p (is_for_chairs tag) (tag_drawn stamp p tag on)
+    tag-same facts shown tabled same p (is_for_chairs tag) (alone stamp (Tagged p tag on))
 command-same facts shown tabled stamp (commands.Decide (Some p) decision) same =
-    decide-same facts shown tabled same p (decision_drawn stamp p decision)
+    decide-same facts shown tabled same p (alone stamp (Decided p decision))
 command-same facts shown tabled stamp command same = refl
 
 -- the judgement by any user's view is the one by the tables
