@@ -14,7 +14,7 @@ use Rattle.cr_match.proofs.Costs.{not_reached, Reached}
 use Rattle.cr_match.proofs.Held.{held_is, not_held_if, held_isnt, slots_length, slots_at, inside_at, count_members}
 use Rattle.cr_match.proofs.Inside.{inside_alike}
 use Rattle.cr_match.proofs.Settled.{stays, kept_now, bp, bm}
-use Rattle.cr_match.proofs.Sooner.{StaysOut, kept_split, split_at, step_out}
+use Rattle.cr_match.proofs.Sooner.{StaysOut, kept_split, split_at, turned_out}
 
 -- the bits of a set, as a list
 
@@ -217,7 +217,7 @@ module _ (es : List Pair) (b : Board) (v : Levels) (i : ℕ) (inside : AreInside
   stays_out : (c : ℕ) → c ≤ 1 → (c ≡ 0 → Has t.papers.items b.papers → ⊥) → (c ≡ 1 → Has t.papers.items b.papers)
       → StaysOut b.want b.load b.papers (take i (slots d es)) x (drop (i + 1) (slots d es))
   stays_out c lc none some s us same whole f most =
-      let parts = kept_split b.want b.load b.papers b.members v.papers.items v.members.items (slots d es) i x ls x_is kept_here in
+      let parts = kept_split b.want b.load b.papers i (slots d es) x ls x_is b.members v.papers.items v.members.items kept_here in
       not_reached b.want b.load b.papers b.members v.papers.items v.members.items down up (take i (slots d es)) x s
       (drop (i + 1) (slots d es)) us c lc parts f
       (inside_alike b.papers b.members (take i (slots d es) ++ x ∷ drop (i + 1) (slots d es))
@@ -233,11 +233,11 @@ module _ (es : List Pair) (b : Board) (v : Levels) (i : ℕ) (inside : AreInside
       rest_closed (at_most t.papers.items b.papers) (at_most t.members.items b.members)
       (h.best.alike.members.0 ∙ sym (places_length (bit_in t.members.items) 0 b.members))
       (subst (λ (ss : List Slot). Reached b.load b.members v.members.items up ss c)
-      (split_at (slots d es) i x ls x_is) (reached_so c none some)) most
+      (split_at b.want b.load b.papers i (slots d es) x ls x_is) (reached_so c none some)) most
 
   pub settled_out : IsSettling es b v d (i + 1) (i + 1)
   settled_out = stays es b v i inside apart li table d h
-      (step_out b.want b.load b.papers b.members v.papers.items v.members.items (slots d es) i x ls x_is kept_here
+      (turned_out b.want b.load b.papers i (slots d es) x ls x_is
       (elim (has_cases t.papers.items b.papers) [
         | inl yes' ↦ stays_out 1 (omega arith) (λ e. absurd (omega (arith, e))) (λ _. yes')
         | inr none ↦ stays_out 0 (omega arith) (λ _. none) (λ e. absurd (omega (arith, e)))

@@ -9,7 +9,8 @@ use Rattle.cr_match.specs.Settle.{Adds}
 use Rattle.cr_match.proofs.Held.{is_held_if, slots_alike, slots_length, slots_at, kept}
 use Rattle.cr_match.proofs.Served.{turned_suits}
 use Rattle.cr_match.proofs.Settled.{same_marks_before, kept_now, bp, bm, other_pair, at_j}
-use Rattle.cr_match.proofs.Sooner.{none_before_step, turned_in, turned_split}
+use Rattle.cr_match.proofs.Sooner.{none_before_more, turned_in}
+use Rattle.cr_match.proofs.Costs.{worth_most}
 use Rattle.cr_match.proofs.Swapped.{iff_trans, cell_free}
 use Rattle.cr_match.proofs.Toggled.{place_cases, toggled, same_one, here_holds, paper_here, paper_other, member_here, member_other, other_takes}
 use Rattle.cr_match.proofs.Turned.{at_same, at_other}
@@ -194,11 +195,6 @@ module _ (es : List Pair) (b : Board) (v : Levels) (i : ℕ) (inside : AreInside
   le : i < length (slots e es)
   le = omega (arith, li, slots_length e es)
 
-  turned_now : Turned b.want b.load b.papers i (slots e es)
-  turned_now = turned_split b.want b.load b.papers (slots e es) i (slot_of e (nth es i)) le (sym (slots_at e es i li))
-      (turned_in b.want b.load b.papers (take i (slots e es)) (slot_of e (nth es i)) (drop (i + 1) (slots e es))
-      (is_held_if e (nth es i) a.here.0))
-
   pub brought : IsSettling es b v e (i + 1) (i + 1)
   brought = record {
     best = new_best;
@@ -211,11 +207,9 @@ module _ (es : List Pair) (b : Board) (v : Levels) (i : ℕ) (inside : AreInside
         (subst (λ k. Takes e.moves k x ↔ Takes d.moves k x) (t.sides.papers ∙ h.best.alike.papers.1) (a.spare x (dm x lx)))
         (iff_trans (subst (λ k. Takes d.moves k x ↔ Takes c.moves k x) h.best.alike.papers.1 (t.spare x (cm x lx)))
         (h.spare x lx));
-    first = none_before_step b.want b.load b.papers b.members v.papers.items v.members.items i (slots c es) (slots e es)
-        (kept_now es b v i inside apart li table c h) (omega (arith, li, slots_length c es)) h.first record {
-          kept = kept b v e es inside apart table new_best;
-          alike = slots_alike c e es;
-          before = brought_before;
-          turned = turned_now;
-        };
+    first = none_before_more b.want b.load b.papers i (slots c es) (slots e es) h.first (slots_alike c e es)
+        (worth_most b.want b.load b.papers b.members v.papers.items v.members.items (slots e es) (slots c es)
+        (kept b v e es inside apart table new_best) (slots_alike e c es) (kept_now es b v i inside apart li table c h).filled)
+        brought_before le (turned_in b.want b.load b.papers i (slots e es) (slot_of e (nth es i)) le
+        (sym (slots_at e es i li)) (is_held_if e (nth es i) a.here.0));
   }

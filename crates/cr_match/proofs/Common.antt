@@ -20,7 +20,7 @@ pub use Rattle.cr_match.specs.Board.{AreSmall, IsBoard, far, low, price_of, wort
 pub use Rattle.cr_match.specs.Copies.{AllWorth, AreBy, IsFor, lowered, marks}
 pub use Rattle.cr_match.specs.Draft.{Changes, Fits, Flips, Holds, IsDraft, IsFree, SameCell, SameSides, Swaps}
 pub use Rattle.cr_match.specs.Draft.{Toggles, Turns, at, cell, counted}
-pub use Rattle.cr_match.specs.Earlier.{AllInside, IsNoLater, IsStep, NoneBefore, Turned}
+pub use Rattle.cr_match.specs.Earlier.{AllInside, IsNoLater, NoneBefore, Turned}
 pub use Rattle.cr_match.specs.Labels.{Alike, Filled, bare, cut_slot, slot, zeros}
 pub use Rattle.cr_match.specs.Plan.{DistinctBelow, IsPlan, IsTooMuch, MembersBelow, above, among, bound, excess}
 pub use Rattle.cr_match.specs.Plan.{joins, kept, of_member, of_paper, sum_z, total_below, total_weight}

@@ -165,36 +165,20 @@ module _ (d : Draft) (papers members : ℕ) (es : List Pair) (inside : AreInside
   slots_inside = are_inside papers members es (slots d es) inside (slots_for d papers members es inside)
 
   -- each slot has one member, and one paper
-  by_member : (q : ℕ) (ss : List Slot) → AllInside papers members ss
-      → count_by (has_paper q) ss ≡ total_below (λ m. count_by (λ s. has_paper q s && (s.member == m)) ss) members
-  by_member q [] h = sym (total_below_none members)
-  by_member q (s ∷ ss) h =
+  by_place : (f : Slot → Bool) (place : Slot → ℕ) (n : ℕ)
+      → ((s : Slot) → s.paper < papers → s.member < members → place s < n) → (ss : List Slot)
+      → AllInside papers members ss → count_by f ss ≡ total_below (λ k. count_by (λ s. f s && (place s == k)) ss) n
+  by_place f place n less [] h = sym (total_below_none n)
+  by_place f place n less (s ∷ ss) h =
       omega (
         arith,
-        count_cons (has_paper q) s ss,
-        total_below_same (λ m. count_by (λ x. has_paper q x && (x.member == m)) (s ∷ ss))
-            (λ m. bit (has_paper q s && (s.member == m)) + count_by (λ x. has_paper q x && (x.member == m)) ss) members
-            (λ m. count_cons (λ x. has_paper q x && (x.member == m)) s ss),
-        total_below_add (λ m. bit (has_paper q s && (s.member == m)))
-            (λ m. count_by (λ x. has_paper q x && (x.member == m)) ss) members,
-        pick_member (has_paper q s) s.member members h.1,
-        by_member q ss h.2,
-      )
-
-  by_paper : (m : ℕ) (ss : List Slot) → AllInside papers members ss
-      → count_by (has_member m) ss ≡ total_below (λ q. count_by (λ s. has_member m s && (s.paper == q)) ss) papers
-  by_paper m [] h = sym (total_below_none papers)
-  by_paper m (s ∷ ss) h =
-      omega (
-        arith,
-        count_cons (has_member m) s ss,
-        total_below_same (λ q. count_by (λ x. has_member m x && (x.paper == q)) (s ∷ ss))
-            (λ q. bit (has_member m s && (s.paper == q)) + count_by (λ x. has_member m x && (x.paper == q)) ss) papers
-            (λ q. count_cons (λ x. has_member m x && (x.paper == q)) s ss),
-        total_below_add (λ q. bit (has_member m s && (s.paper == q)))
-            (λ q. count_by (λ x. has_member m x && (x.paper == q)) ss) papers,
-        pick_member (has_member m s) s.paper papers h.0,
-        by_paper m ss h.2,
+        count_cons f s ss,
+        total_below_same (λ k. count_by (λ x. f x && (place x == k)) (s ∷ ss))
+            (λ k. bit (f s && (place s == k)) + count_by (λ x. f x && (place x == k)) ss) n
+            (λ k. count_cons (λ x. f x && (place x == k)) s ss),
+        total_below_add (λ k. bit (f s && (place s == k))) (λ k. count_by (λ x. f x && (place x == k)) ss) n,
+        pick_member (f s) (place s) n (less s h.0 h.1),
+        by_place f place n less ss h.2,
       )
 
   eq_is : (a b : ℕ) → (a == b) ≡ true → a ≡ b
@@ -228,13 +212,13 @@ module _ (d : Draft) (papers members : ℕ) (es : List Pair) (inside : AreInside
 
   -- so they count what is held
   pub papers_held : (q : ℕ) → q < papers → count_by (has_paper q) (slots d es) ≡ total_below (cell d q) members
-  papers_held q lq = by_member q (slots d es) slots_inside
+  papers_held q lq = by_place (has_paper q) (λ s. s.member) members (λ s _ lm. lm) (slots d es) slots_inside
       ∙ same_total (λ m. count_by (λ s. has_paper q s && (s.member == m)) (slots d es)) (cell d q) members
       (λ m lm. count_cell (λ s. has_paper q s && (s.member == m)) q m lq lm
       (λ s h. three s.chosen s.paper q s.member m h) (λ s c e f. of_three s.chosen s.paper q s.member m c e f))
 
   pub members_held : (m : ℕ) → m < members → count_by (has_member m) (slots d es) ≡ total_below (λ q. cell d q m) papers
-  members_held m lm = by_paper m (slots d es) slots_inside
+  members_held m lm = by_place (has_member m) (λ s. s.paper) papers (λ s lp _. lp) (slots d es) slots_inside
       ∙ same_total (λ q. count_by (λ s. has_member m s && (s.paper == q)) (slots d es)) (λ q. cell d q m) papers
       (λ q lq. count_cell (λ s. has_member m s && (s.paper == q)) q m lq lm
       (λ s h. let t = three s.chosen s.member m s.paper q h in

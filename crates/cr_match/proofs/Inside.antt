@@ -74,12 +74,6 @@ alike_parts (x ∷ xs) ys (t ∷ ts) h =
     let r = alike_parts xs ys ts h.3 in
     ((h.0, h.1, h.2, r.0), r.1, ap (λ (us : List Slot). t ∷ us) r.2)
 
-pub alike_symm : (ss ts : List Slot) → Alike ss ts → Alike ts ss
-alike_symm [] [] h = tt
-alike_symm [] (t ∷ ts) h = absurd h
-alike_symm (s ∷ ss) [] h = absurd h
-alike_symm (s ∷ ss) (t ∷ ts) h = (sym h.0, sym h.1, sym h.2, alike_symm ss ts h.3)
-
 pub slot_eq : (s t : Slot) → t.paper ≡ s.paper → t.member ≡ s.member → t.value ≡ s.value → t.chosen ≡ s.chosen → t ≡ s
 slot_eq s t p m v c =
     let e : slot t.paper t.member t.value t.chosen ≡ slot s.paper s.member s.value s.chosen =

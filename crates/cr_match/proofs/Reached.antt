@@ -144,7 +144,7 @@ module _ (v : Moves) (s t : Trail) (m p f : ℕ) (r : Reaches m p f s t) (inside
 -- a member who comes from herself, behind a search that is done and hasn't reached her
 pub record IsRooted (v : Moves) (target m : ℕ) (s t : Trail) : Type 0 where
   pub search : IsSearched v target s
-  pub member : m < v.members
+  pub member : m ≤ v.members
   pub absent : Has s.members.items m → ⊥
   pub closed : Drops v m target → ⊥
   pub reaches : Reaches m 0 s.count s t
@@ -153,6 +153,9 @@ pub record IsRooted (v : Moves) (target m : ℕ) (s t : Trail) : Type 0 where
 module _ {v : Moves} {target m : ℕ} {s t : Trail} (h : IsRooted v target m s t) where
   inside : s.count < length s.steps.items
   inside = room v s m h.search.roomy h.search.steps (omega (arith, h.member)) h.absent
+
+  pub rooted_member : (step_of t s.count).member ≡ m
+  rooted_member = last_member v s t m 0 s.count h.reaches inside
 
   pub rooted_roomy : IsRoomy v t
   rooted_roomy = still_roomy v s t m 0 s.count h.reaches inside h.search.roomy
@@ -195,10 +198,10 @@ module _ {v : Moves} {target m : ℕ} {s t : Trail} (h : IsRooted v target m s t
       (early v s t m 0 s.count h.reaches inside i lt) drops))
 
   -- a search behind it that is done
-  pub searched : (u : Trail) → IsRoomy v u → AreSteps v u → GoesOn t u
+  pub searched : m < v.members → (u : Trail) → IsRoomy v u → AreSteps v u → GoesOn t u
       → IsReached v target u × (u.next ≡ u.count) × ((i : ℕ) → i < u.count → IsExpanded v u i)
       → IsSearched v target u × Has u.members.items m
-  searched u roomy steps goes none = (
+  searched lm u roomy steps goes none = (
     record {
       roomy = roomy;
       steps = steps;
@@ -208,7 +211,7 @@ module _ {v : Moves} {target m : ℕ} {s t : Trail} (h : IsRooted v target m s t
         | inl less ↦ steps.taken i less lt
         | inr le ↦ let lt' : i < t.count = omega (arith, le, goes.root, h.root, h.reaches.count) in
             subst (λ (x : Step). x.member < v.members) (sym (goes.steps i lt'))
-            (either v s t m 0 s.count h.reaches inside (λ x. x.member < v.members) h.search.real h.member i lt')
+            (either v s t m 0 s.count h.reaches inside (λ x. x.member < v.members) h.search.real lm i lt')
       ];
       done = none.2;
     },
@@ -231,13 +234,13 @@ module _ {v : Moves} {target m : ℕ} {s t : Trail} (h : IsRooted v target m s t
         ∙ last v s t m 0 s.count h.reaches inside),
   )
 
-  pub found_or_done : (u : Trail) (o : Option ℕ) → IsRoomy v u → AreSteps v u → GoesOn t u
+  pub found_or_done : m < v.members → (u : Trail) (o : Option ℕ) → IsRoomy v u → AreSteps v u → GoesOn t u
       → IfSome o (λ i. (i < u.count) × Drops v (step_of u i).member target)
       → IfNone o (IsReached v target u × (u.next ≡ u.count) × ((i : ℕ) → i < u.count → IsExpanded v u i))
       → IfSome o (λ i. (i < u.count) × (u.root ≤ i) × Drops v (step_of u i).member target × ((step_of u u.root).member ≡ m))
       × IfNone o (IsSearched v target u × Has u.members.items m)
-  found_or_done u (Some i) roomy steps goes some none = (found_behind u i goes some, tt)
-  found_or_done u None roomy steps goes some none = (tt, searched u roomy steps goes none)
+  found_or_done lm u (Some i) roomy steps goes some none = (found_behind u i goes some, tt)
+  found_or_done lm u None roomy steps goes some none = (tt, searched lm u roomy steps goes none)
 
 -- nothing is reached
 pub forgotten : (v : Moves) (target : ℕ) (s t : Trail) → IsRoomy v s → length t.papers.items ≡ length s.papers.items

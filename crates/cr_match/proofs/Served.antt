@@ -3,7 +3,8 @@ use Rattle.cr_match.proofs.Common.{◌≡◌, ◌⊎◌, inl, inr, ℕ, ◌+◌,
 use Rattle.cr_match.proofs.Common.{cases_eq, Has, Takes, Drops, step_of, IsRoomy, AreSteps, IsReached, worth}
 use Rattle.cr_match.proofs.Common.{price_of, IsDraft, Fits, IsFree, Turns, at, IsFitting, IsBegun, placed}
 use Rattle.cr_match.proofs.Common.{Board, Levels, Draft, Step, Trail}
-use Rattle.cr_match.specs.Search.{Begins}
+use Rattle.cr_match.specs.Search.{IsSearched, Reaches}
+use Rattle.cr_match.proofs.Reached.{IsRooted, rooted_member, rooted_reached, rooted_roomy, rooted_steps}
 use Rattle.cr_match.specs.Board.{AreAlike, Suits}
 use Rattle.cr_match.proofs.Bits.{row_cases}
 use Rattle.cr_match.proofs.Counts.{changed_total}
@@ -94,57 +95,31 @@ module _ (b : Board) (v : Levels) (c d : Draft) (fit : IsFitting b v c)
         ((t.spare x (omega (arith, lx, fit.alike.members.1))).0 (subst (λ q. Takes d.moves q x) (sym fit.alike.papers.1) takes)));
   }
 
--- a search begins at a member who may not drop the target
-
-pub begun_roomy : (d : Draft) (m : ℕ) (s t : Trail) → IsRoomy d.moves s → Begins m s t → IsRoomy d.moves t
-begun_roomy d m s t h g = record {
-  papers = g.papers.0 ∙ h.papers;
-  members = (omega (arith, h.members.0, g.long.0), omega (arith, h.members.1, g.long.0), omega (arith, h.members.2, g.long.0));
-  steps = g.long.1 ∙ h.steps;
-}
-
-pub begun_steps : (d : Draft) (m : ℕ) (s t : Trail) → m ≤ d.moves.members → Begins m s t → AreSteps d.moves t
-begun_steps d m s t lm g =
-    let only : (i : ℕ) → i < t.count → i ≡ 0 = λ i lt. omega (arith, lt, g.count.0) in
-    let step : (i : ℕ) → i < t.count → step_of t i ≡ record { member = m; paper = 0; from = 0 } =
-    λ i lt. ap (step_of t) (only i lt) ∙ g.step in
+-- a search begins at nobody
+pub begun_all : (b : Board) (v : Levels) (d : Draft) (s t : Trail) → IsFitting b v d → IsSearched d.moves b.papers s
+    → s.count ≡ 0 → Reaches b.members 0 s.count s t → t.root ≡ s.count → IsBegun b v d t v.nobody
+begun_all b v d s t fit search zero reaches root =
+    let lm : b.members ≤ d.moves.members = omega (arith, fit.alike.members.1) in
+    let h : IsRooted d.moves b.papers b.members s t = record {
+      search = search;
+      member = lm;
+      absent = λ has. absurd (omega (arith, (search.steps.found b.members lm has).1, zero));
+      closed = λ drops. fit.draft.never (subst (λ x. Drops d.moves x d.moves.papers) (sym fit.alike.members.1)
+          (subst (λ q. Drops d.moves b.members q) (sym fit.alike.papers.1) drops));
+      reaches = reaches;
+      root = root;
+    } in
     record {
-      count = g.count.0 ∙ sym (g.all (d.moves.members + 1) (omega (arith, lm)));
-      inside = λ i lt. subst (λ (x : Step). x.member ≤ d.moves.members) (sym (step i lt)) lm;
-      taken = λ i li lt. absurd (omega (arith, only i lt, li));
-      rows = λ i lt. subst (λ (x : Step). x.paper ≤ d.moves.papers) (sym (step i lt)) (omega arith);
-      seen = λ i lt. subst (λ (x : Step). Has t.members.items x.member) (sym (step i lt)) g.same;
-      apart = λ i j lj li. absurd (omega (arith, lj, only i li));
-      found = λ k lk has. elim (cases_eq k m) [
-        | inl e ↦ (0, omega (arith, g.count.0), ap (λ (x : Step). x.member) g.step ∙ sym e)
-        | inr ne ↦ absurd (g.others k ne has)
-      ];
-      leads = λ i lt. inl (ap (λ (x : Step). x.from) (step i lt) ∙ sym (only i lt));
-      after = λ i li lt. absurd (omega (arith, only i lt, li));
+      roomy = rooted_roomy h;
+      steps = rooted_steps h;
+      reached = rooted_reached h;
+      start = (
+        reaches.next ∙ search.next ∙ zero,
+        root ∙ zero,
+        omega (arith, reaches.count),
+        ap (λ i. (step_of t i).member) (sym zero) ∙ rooted_member h,
+      );
+      members = λ m lm _. fit.bounded.members m lm;
+      papers = λ p lp. inl (fit.bounded.floor p lp);
+      nobody = omega arith;
     }
-
-pub begun_reached : (d : Draft) (m target : ℕ) (s t : Trail) → (Drops d.moves m target → ⊥) → Begins m s t
-    → IsReached d.moves target t
-begun_reached d m target s t none g =
-    let empty : (q : ℕ) → Has t.papers.items q → ⊥ = λ q has. clear_none t.papers.items g.papers.1 q has in
-    record {
-      none = λ i lt drops. none (subst (λ (x : Step). Drops d.moves x.member target)
-          (ap (step_of t) (let e : i ≡ 0 = omega (arith, lt, g.count.0) in e) ∙ g.step) drops);
-      away = empty target;
-      spread = λ q has. absurd (empty q has);
-      dropped = λ q _ has. absurd (empty q has);
-    }
-
-pub begun_all : (b : Board) (v : Levels) (d : Draft) (s t : Trail) → IsFitting b v d → IsRoomy d.moves s
-    → Begins b.members s t → IsBegun b v d t v.nobody
-begun_all b v d s t fit roomy g = record {
-  roomy = begun_roomy d b.members s t roomy g;
-  steps = begun_steps d b.members s t (omega (arith, fit.alike.members.1)) g;
-  reached = begun_reached d b.members b.papers s t
-      (λ drops. fit.draft.never (subst (λ x. Drops d.moves x d.moves.papers) (sym fit.alike.members.1)
-      (subst (λ q. Drops d.moves b.members q) (sym fit.alike.papers.1) drops))) g;
-  start = (g.count.1, g.count.2, omega (arith, g.count.0), ap (λ (x : Step). x.member) g.step);
-  members = λ m lm _. fit.bounded.members m lm;
-  papers = λ p lp. inl (fit.bounded.floor p lp);
-  nobody = omega arith;
-}

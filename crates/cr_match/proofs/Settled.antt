@@ -2,16 +2,16 @@
 use Rattle.cr_match.proofs.Common.{◌≡◌, ◌≢◌, ◌⊎◌, inl, inr, ◌↔◌, ℕ, zero, suc, ◌+◌, ◌<◌, ◌≤◌, Bool, ◌==◌, List, []}
 use Rattle.cr_match.proofs.Common.{◌∷◌, length, count_by, take, drop, get_or, refl, arith, ap, sym}
 use Rattle.cr_match.proofs.Common.{◌∙◌, subst, cases_eq, cases_lt, Board, Levels, Draft, Pair, AreInside, AreDistinct}
-use Rattle.cr_match.proofs.Common.{worth, price_of, marks, Holds, at, IsDraft, IsFree, IsStep, NoneBefore, Takes}
+use Rattle.cr_match.proofs.Common.{worth, price_of, marks, Holds, at, IsDraft, IsFree, NoneBefore, Turned, Takes}
 use Rattle.cr_match.proofs.Common.{Drops, nth, lifted, IsTable, is_held, slot_of, slots, IsBest, IsSettling, Closes}
 use Rattle.cr_match.proofs.Common.{Slot, has_paper}
 use Rattle.cr_match.proofs.Common.{Has, IsRoomy, Trail, gone, step_of}
 use Rattle.cr_match.specs.Earlier.{Kept}
 use Rattle.cr_match.specs.Search.{IsSearched}
-use Rattle.cr_match.proofs.Alike.{zero_slot}
+use Rattle.cr_match.proofs.Alike.{alike_refl, zero_slot}
 use Rattle.cr_match.proofs.Held.{is_held_if, not_held_if, slots_length, slots_at, inside_at, distinct_at, kept}
 use Rattle.cr_match.proofs.Redrawn.{same_holds, redrawn}
-use Rattle.cr_match.proofs.Sooner.{out_paper, none_before_step, step_in, step_out, step_below}
+use Rattle.cr_match.proofs.Sooner.{out_paper, none_before_more, turned_below, turned_in, turned_out}
 use Rattle.cr_match.proofs.Swapped.{iff_trans}
 use Rattle.cr_match.proofs.Toggled.{same_cell, place_cases}
 
@@ -231,33 +231,31 @@ module _ (es : List Pair) (b : Board) (v : Levels) (i : ℕ) (inside : AreInside
     pub kept_now : Kept b.want b.load b.papers b.members v.papers.items v.members.items (slots d es)
     kept_now = kept b v d es inside apart table h.best
 
-    pub stays : IsStep b.want b.load b.papers b.members v.papers.items v.members.items i (slots d es) (slots d es)
-        → IsSettling es b v d (i + 1) (i + 1)
-    stays step = record {
+    pub stays : Turned b.want b.load b.papers i (slots d es) → IsSettling es b v d (i + 1) (i + 1)
+    stays turned = record {
       best = h.best;
       free = h.free;
       tight = h.tight;
       closed = h.closed;
       spare = h.spare;
-      first = none_before_step b.want b.load b.papers b.members v.papers.items v.members.items i (slots d es) (slots d es)
-          kept_now ls h.first step;
+      first = none_before_more b.want b.load b.papers i (slots d es) (slots d es) h.first (alike_refl (slots d es))
+          (omega arith) refl ls turned;
     }
 
     -- the pair is held
     pub settled_held : Holds d p m → IsSettling es b v d (i + 1) (i + 1)
-    settled_held has = stays (step_in b.want b.load b.papers b.members v.papers.items v.members.items (slots d es) i x ls x_is
-        kept_now (is_held_if d (nth es i) has))
+    settled_held has = stays (turned_in b.want b.load b.papers i (slots d es) x ls x_is (is_held_if d (nth es i) has))
 
     value_is : x.value ≡ worth b p m
     value_is = sym (table.weights i li)
 
     -- it is worth less than its prices
     pub settled_low : (Holds d p m → ⊥) → worth b p m ≢ price_of v p m → IsSettling es b v d (i + 1) (i + 1)
-    settled_low lacks ne = stays (step_below b.want b.load b.papers b.members v.papers.items v.members.items (slots d es) i x ls
-        x_is kept_now (not_held_if d (nth es i) lacks) (λ e. ne (sym value_is ∙ e)))
+    settled_low lacks ne = stays (turned_below b.want b.load b.papers i (slots d es) x ls x_is b.members v.papers.items
+        v.members.items kept_now (not_held_if d (nth es i) lacks) (λ e. ne (sym value_is ∙ e)))
 
     -- its paper has all its members before it
     pub settled_full : (Holds d p m → ⊥) → b.want ≤ count_by (has_paper p) (take i (slots d es))
         → IsSettling es b v d (i + 1) (i + 1)
-    settled_full lacks full = stays (step_out b.want b.load b.papers b.members v.papers.items v.members.items (slots d es) i x ls
-        x_is kept_now (out_paper b.want b.load b.papers (take i (slots d es)) x (drop (i + 1) (slots d es)) bp full))
+    settled_full lacks full = stays (turned_out b.want b.load b.papers i (slots d es) x ls x_is
+        (out_paper b.want b.load b.papers (take i (slots d es)) x (drop (i + 1) (slots d es)) bp full))

@@ -2,15 +2,15 @@
 use Rattle.cr_match.proofs.Common.{◌≡◌, ℕ, ◌≢◌, zero, suc, ◌+◌, ◌<◌, ◌≤◌, Bool, true, false, List, [], ◌∷◌, ◌++◌}
 use Rattle.cr_match.proofs.Common.{length, count_by, take, drop, get_or, refl, arith, ap, sym, ◌∙◌, subst, Slot}
 use Rattle.cr_match.proofs.Common.{price, AllSuit, has_paper, chosen_value, Alike, Filled, marks}
-use Rattle.cr_match.proofs.Common.{IsNoLater, IsStep, NoneBefore, Turned}
+use Rattle.cr_match.proofs.Common.{IsNoLater, NoneBefore, Turned}
 use Rattle.std.proofs.lemmas.List.{take_more, take-append-drop, length-take-le}
 use Rattle.cr_match.specs.Slack.{Suits}
 use Rattle.cr_match.specs.Earlier.{Kept}
 use Rattle.cr_match.proofs.Alike.{bit, zero_slot, alike_trans, alike_refl}
 use Rattle.cr_match.proofs.Tells.{drop_at}
-use Rattle.cr_match.proofs.Inside.{alike_append, alike_symm, count_append, count_cons, alike_length, alike_parts}
+use Rattle.cr_match.proofs.Inside.{alike_append, count_append, count_cons, alike_length, alike_parts}
 use Rattle.cr_match.proofs.Inside.{same_marks, marks_take, marks_length, mark_after, marks_before}
-use Rattle.cr_match.proofs.Costs.{below_price, paper_full, worth_most}
+use Rattle.cr_match.proofs.Costs.{below_price, paper_full}
 
 later_end : (b c : Bool) → (c ≡ true → b ≡ true) → IsNoLater (b ∷ []) (c ∷ [])
 later_end true true h = tt
@@ -71,101 +71,52 @@ turned_case want load papers xs s rest ts (t ∷ us) out is same f most has =
     ap (λ (ys : List Slot). get_or (marks ys) (length xs) false) is ∙ mark_after xs t us false in
     absurd (let d = sym none ∙ sym e ∙ has in cc)
 
-pub turned_out : (want load papers : ℕ) (xs : List Slot) (s : Slot) (rest : List Slot)
-    → StaysOut want load papers xs s rest → Turned want load papers (length xs) (xs ++ s ∷ rest)
-turned_out want load papers xs s rest out ts h f most before has =
-    let parts = alike_parts xs (s ∷ rest) ts h in
-    let front = same_marks xs (take (length xs) ts) parts.0 (marks_take (length xs) ts ∙ before ∙ marks_before xs (s ∷ rest)) in
-    let is = parts.2 ∙ ap (λ (ys : List Slot). ys ++ drop (length xs) ts) front in
-    turned_case want load papers xs s rest ts (drop (length xs) ts) out is parts.1 f most has
-
-pub turned_in : (want load papers : ℕ) (xs : List Slot) (s : Slot) (rest : List Slot) → s.chosen ≡ true
-    → Turned want load papers (length xs) (xs ++ s ∷ rest)
-turned_in want load papers xs s rest has ts h f most before other = mark_after xs s rest false ∙ has
-
-pub out_below : (want load papers members : ℕ) (a b : List ℕ) (xs : List Slot) (s : Slot) (rest : List Slot)
-    → Kept want load papers members a b (xs ++ s ∷ rest) → s.chosen ≡ false →
-    s.value < price a b s → StaysOut want load papers xs s rest
-out_below want load papers members a b xs s rest k out low t us same whole f most =
-    below_price want load papers members a b xs s t rest us k f same out low most
-
 pub out_paper : (want load papers : ℕ) (xs : List Slot) (s : Slot) (rest : List Slot) → s.paper < papers
     → want ≤ count_by (has_paper s.paper) xs → StaysOut want load papers xs s rest
 out_paper want load papers xs s rest lt full t us same whole f most =
     paper_full want load papers xs t us f (omega (arith, lt, same.0))
     (omega (arith, full, ap (λ q. count_by (has_paper q) xs) same.0))
 
-pub kept_most : (want load papers members : ℕ) (a b : List ℕ) (ss ns : List Slot) → Alike ns ss
-    → Kept want load papers members a b ns → Kept want load papers members a b ss →
-    chosen_value ss ≤ chosen_value ns
-kept_most want load papers members a b ss ns h k l = worth_most want load papers members a b ns ss k h l.filled
-
--- the parts of a list at slot i
-
-pub split_at : (ss : List Slot) (i : ℕ) (x : Slot) → i < length ss → x ≡ get_or ss i zero_slot
-    → ss ≡ take i ss ++ x ∷ drop (i + 1) ss
-split_at ss i x lt is =
-    sym (take-append-drop i ss) ∙ ap (λ (ys : List Slot). take i ss ++ ys) (drop_at ss i zero_slot x lt is)
-
-pub front_length : (ss : List Slot) (i : ℕ) → i < length ss → length (take i ss) ≡ i
-front_length ss i lt = length-take-le i ss (omega (arith, lt))
-
-pub kept_split : (want load papers members : ℕ) (a b : List ℕ) (ss : List Slot) (i : ℕ) (x : Slot) → i < length ss
-    → x ≡ get_or ss i zero_slot → Kept want load papers members a b ss →
-    Kept want load papers members a b (take i ss ++ x ∷ drop (i + 1) ss)
-kept_split want load papers members a b ss i x lt is k =
-    subst (λ (ys : List Slot). Kept want load papers members a b ys) (split_at ss i x lt is) k
-
-pub turned_split : (want load papers : ℕ) (ss : List Slot) (i : ℕ) (x : Slot) → i < length ss → x ≡ get_or ss i zero_slot →
-    Turned want load papers (length (take i ss)) (take i ss ++ x ∷ drop (i + 1) ss) → Turned want load papers i ss
-turned_split want load papers ss i x lt is t =
-    subst (λ (ys : List Slot). Turned want load papers i ys) (sym (split_at ss i x lt is))
-    (subst (λ k. Turned want load papers k (take i ss ++ x ∷ drop (i + 1) ss)) (front_length ss i lt) t)
-
-step_same : (want load papers members : ℕ) (a b : List ℕ) (ss : List Slot) (i : ℕ)
-    → Kept want load papers members a b ss → Turned want load papers i ss → IsStep want load papers members a b i ss ss
-step_same want load papers members a b ss i k t = record { kept = k; alike = alike_refl ss; before = refl; turned = t }
-
--- a slot that is chosen stays
-pub step_in : (want load papers members : ℕ) (a b : List ℕ) (ss : List Slot) (i : ℕ) (x : Slot) → i < length ss
-    → x ≡ get_or ss i zero_slot → Kept want load papers members a b ss →
-    x.chosen ≡ true → IsStep want load papers members a b i ss ss
-step_in want load papers members a b ss i x lt is k has =
-    step_same want load papers members a b ss i k
-    (turned_split want load papers ss i x lt is (turned_in want load papers (take i ss) x (drop (i + 1) ss) has))
-
--- and one that can't come in stays out
-pub step_out : (want load papers members : ℕ) (a b : List ℕ) (ss : List Slot) (i : ℕ) (x : Slot) → i < length ss
-    → x ≡ get_or ss i zero_slot → Kept want load papers members a b ss →
-    StaysOut want load papers (take i ss) x (drop (i + 1) ss) → IsStep want load papers members a b i ss ss
-step_out want load papers members a b ss i x lt is k out =
-    step_same want load papers members a b ss i k
-    (turned_split want load papers ss i x lt is (turned_out want load papers (take i ss) x (drop (i + 1) ss) out))
-
-not_above : (a b : List ℕ) (x : Slot) → x.chosen ≡ false → Suits a b x → x.value ≢ price a b x → x.value < price a b x
-not_above a b x out suit ne = omega (arith, suit.1 out, ne)
-
 middle_suits : (a b : List ℕ) (xs : List Slot) (x : Slot) (ys : List Slot) → AllSuit a b (xs ++ x ∷ ys) → Suits a b x
 middle_suits a b [] x ys h = h.0
 middle_suits a b (y ∷ xs) x ys h = middle_suits a b xs x ys h.1
 
-pub step_below : (want load papers members : ℕ) (a b : List ℕ) (ss : List Slot) (i : ℕ) (x : Slot) → i < length ss
-    → x ≡ get_or ss i zero_slot → Kept want load papers members a b ss →
-    x.chosen ≡ false → x.value ≢ price a b x → IsStep want load papers members a b i ss ss
-step_below want load papers members a b ss i x lt is k out ne =
-    let parts = kept_split want load papers members a b ss i x lt is k in
-    step_out want load papers members a b ss i x lt is k
-    (out_below want load papers members a b (take i ss) x (drop (i + 1) ss) parts out
-    (not_above a b x out (middle_suits a b (take i ss) x (drop (i + 1) ss) parts.suits) ne))
+-- slot i of a list
+module _ (want load papers i : ℕ) (ss : List Slot) (x : Slot) (lt : i < length ss) (is : x ≡ get_or ss i zero_slot) where
+  pub split_at : ss ≡ take i ss ++ x ∷ drop (i + 1) ss
+  split_at = sym (take-append-drop i ss) ∙ ap (λ (ys : List Slot). take i ss ++ ys) (drop_at ss i zero_slot x lt is)
 
--- after a step, one more slot is settled
-pub none_before_step : (want load papers members : ℕ) (a b : List ℕ) (i : ℕ) (ss ns : List Slot)
-    → Kept want load papers members a b ss → i < length ss → NoneBefore want load papers i ss →
-    IsStep want load papers members a b i ss ns → NoneBefore want load papers (i + 1) ns
-none_before_step want load papers members a b i ss ns k lt none step =
-    none_before_more want load papers i ss ns none step.alike
-    (kept_most want load papers members a b ss ns (alike_symm ss ns step.alike) step.kept k)
-    step.before (omega (arith, lt, alike_length ss ns step.alike)) step.turned
+  pub kept_split : (members : ℕ) (a b : List ℕ) → Kept want load papers members a b ss
+      → Kept want load papers members a b (take i ss ++ x ∷ drop (i + 1) ss)
+  kept_split members a b k = subst (λ (ys : List Slot). Kept want load papers members a b ys) split_at k
+
+  turned_split : Turned want load papers (length (take i ss)) (take i ss ++ x ∷ drop (i + 1) ss)
+      → Turned want load papers i ss
+  turned_split t =
+      subst (λ (ys : List Slot). Turned want load papers i ys) (sym split_at)
+      (subst (λ k. Turned want load papers k (take i ss ++ x ∷ drop (i + 1) ss))
+      (length-take-le i ss (omega (arith, lt))) t)
+
+  -- one that is chosen stays
+  pub turned_in : x.chosen ≡ true → Turned want load papers i ss
+  turned_in has = turned_split (λ ts h f most before other. mark_after (take i ss) x (drop (i + 1) ss) false ∙ has)
+
+  -- and one that can't come in stays out
+  pub turned_out : StaysOut want load papers (take i ss) x (drop (i + 1) ss) → Turned want load papers i ss
+  turned_out out = turned_split (λ ts h f most before has.
+      let parts = alike_parts (take i ss) (x ∷ drop (i + 1) ss) ts h in
+      let front = same_marks (take i ss) (take (length (take i ss)) ts) parts.0
+      (marks_take (length (take i ss)) ts ∙ before ∙ marks_before (take i ss) (x ∷ drop (i + 1) ss)) in
+      turned_case want load papers (take i ss) x (drop (i + 1) ss) ts (drop (length (take i ss)) ts) out
+      (parts.2 ∙ ap (λ (ys : List Slot). ys ++ drop (length (take i ss)) ts) front) parts.1 f most has)
+
+  -- as one below its price does
+  pub turned_below : (members : ℕ) (a b : List ℕ) → Kept want load papers members a b ss → x.chosen ≡ false
+      → x.value ≢ price a b x → Turned want load papers i ss
+  turned_below members a b k out ne =
+      let parts = kept_split members a b k in
+      turned_out (λ t us same whole f most. below_price want load papers members a b (take i ss) x t (drop (i + 1) ss) us
+      parts f same out (omega (arith, (middle_suits a b (take i ss) x (drop (i + 1) ss) parts.suits).1 out, ne)) most)
 
 -- what the slots before have, one more
 pub count_more : (f : Slot → Bool) (ss ns : List Slot) (i : ℕ) → Alike ss ns → take i (marks ns) ≡ take i (marks ss)

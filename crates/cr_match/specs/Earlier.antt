@@ -36,10 +36,3 @@ abbrev pub Turned : ℕ → ℕ → ℕ → ℕ → List Slot → Type 0
 Turned want load papers i ss = (ts : List Slot) → Alike ss ts → Filled want load papers 0 ts
     → chosen_value ss ≤ chosen_value ts → take i (marks ts) ≡ take i (marks ss)
     → slice_index_or (marks ts) i false ≡ true → slice_index_or (marks ss) i false ≡ true
-
--- slot i is settled: the choice is still full and worth as much, and the same before it
-pub record IsStep (want load papers members : ℕ) (a b : List ℕ) (i : ℕ) (ss ns : List Slot) : Type 0 where
-  pub kept : Kept want load papers members a b ns
-  pub alike : Alike ss ns
-  pub before : take i (marks ns) ≡ take i (marks ss)
-  pub turned : Turned want load papers i ns

@@ -104,16 +104,6 @@ pub record Reaches (m p f : ℕ) (s t : Trail) : Type 0 where
   pub others : (j : ℕ) → j ≢ m → Has t.members.items j ↔ Has s.members.items j
   pub more : (n : ℕ) → (Has s.members.items m → ⊥) → m < n → gone t.members.items n ≡ gone s.members.items n + 1
 
--- one step: that of the member, which comes from itself
-pub record Begins (m : ℕ) (s t : Trail) : Type 0 where
-  pub papers : (length t.papers.items ≡ length s.papers.items) × ((k : ℕ) → slice_index t.papers.items k ≡ 0)
-  pub long : (length t.members.items ≡ length s.members.items) × (length t.steps.items ≡ length s.steps.items)
-  pub count : (t.count ≡ 1) × (t.next ≡ 0) × (t.root ≡ 0)
-  pub step : step_of t 0 ≡ record { member = m; paper = 0; from = 0 }
-  pub same : Has t.members.items m
-  pub others : (k : ℕ) → k ≢ m → Has t.members.items k → ⊥
-  pub all : (n : ℕ) → m < n → gone t.members.items n ≡ 1
-
 -- the same steps and members, no papers, and the first step is next
 pub record LooksAgain (s t : Trail) : Type 0 where
   pub papers : (length t.papers.items ≡ length s.papers.items) × ((k : ℕ) → slice_index t.papers.items k ≡ 0)

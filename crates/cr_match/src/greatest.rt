@@ -123,7 +123,9 @@ pub fn solve(problem: &Problem) -> Solved
 /// The first of the plans of the greatest sum, or the papers that show that there is no plan. Where the pairs stand in
 /// order, by paper, then member, every other plan of that sum comes after it, as lists of pairs in dictionary order.
 ///
-/// After what [`solve`] does, a search at most for each pair that the plan lacks and that is worth its prices.
+/// After what [`solve`] does, a search at most for each paper and for each pair that comes in, of which there are at most
+/// as many as places, where the pairs of a paper stand together; otherwise one for each pair that is worth its prices and
+/// stays out, too.
 pub fn first_best(problem: &Problem) -> Solved
     requires { IsProblem problem.now }
     ensures solved { IsSolved problem.now result }

@@ -13,8 +13,8 @@ pub struct Pair {
     pub weight: i32,
 }
 
-/// Each paper needs `per_paper` of the members, each of whom takes `load` papers at most. Only `pairs` may be chosen,
-/// which stand in order, by paper, then member.
+/// Each paper needs `per_paper` of the members, each of whom takes `load` papers at most. Only `pairs` may be chosen, of
+/// which none stands twice.
 #[derive(Drop)]
 pub struct Problem {
     /// How many papers there are.
@@ -25,7 +25,7 @@ pub struct Problem {
     pub per_paper: u32,
     /// How many papers a member takes at most.
     pub load: u32,
-    /// The pairs that may be chosen, in order.
+    /// The pairs that may be chosen, in any order.
     pub pairs: Vec<Pair>,
 }
 

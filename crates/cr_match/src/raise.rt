@@ -11,7 +11,7 @@ use crate::board::{Board, FAR, Levels, worth_of};
 use crate::draft::{Draft, holds, turn};
 use crate::rows::marked;
 use crate::tight::tighten;
-use crate::trail::{Trail, again, begin, explore};
+use crate::trail::{Trail, again, explore, forget, root};
 
 /// The lesser number.
 fn lesser(a: u32, b: u32) -> u32
@@ -146,7 +146,8 @@ fn serve(
     ensures top { levels.new.nobody ≤ 400040 * (place + 1) }
     ensures stuck { result ≡ false → IsStuck board.now draft.new trail.new × (placed board.now draft.new ≡ placed board.now draft.old) }
 {
-    begin(trail, board.members);
+    forget(trail);
+    root(trail, board.members);
     'prices: loop {
         if let Some(last) = explore(&draft.moves, trail, board.papers) {
             turn(draft, board, trail, board.papers, last);

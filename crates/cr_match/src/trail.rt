@@ -3,7 +3,7 @@
 ghost use Rattle.std.specs.Prelude.{◌≡◌, ◌≢◌, ℕ, ◌+◌, ◌*◌, ◌/◌, ◌%◌, ◌^◌, ◌<◌, ◌≤◌, ◌↔◌, IsTrue, IfSome, IfNone, length, slice_index, slice_set};
 ghost use Rattle.cr_match.specs.Rows.{Has, RowHas, Covers, gone};
 ghost use Rattle.cr_match.specs.Search.{Takes, Drops, step_of, AreMoves, IsRoomy, AreSteps, NoneDrops, IsSpread};
-ghost use Rattle.cr_match.specs.Search.{Goes, GoesOn, IsReached, IsExpanded, IsSearched, Reaches, Begins, LooksAgain};
+ghost use Rattle.cr_match.specs.Search.{Goes, GoesOn, IsReached, IsExpanded, IsSearched, Reaches, LooksAgain};
 
 use crate::rows::{clear, has, mark, marked, next};
 
@@ -215,7 +215,7 @@ pub fn forget(trail: &mut Trail)
 }
 
 /// Begins at one more member: her step comes from itself, and the search goes on behind it.
-fn root(trail: &mut Trail, member: usize)
+pub fn root(trail: &mut Trail, member: usize)
     requires room { (trail.old.count < length trail.old.steps.items) × (member < 64 * length trail.old.members.items) }
     ensures reaches { Reaches member 0 trail.old.count trail.old trail.new }
     ensures root { trail.new.root ≡ trail.old.count }
@@ -232,7 +232,7 @@ pub fn explore_from(moves: &Moves, trail: &mut Trail, target: usize, member: usi
     requires searched { IsSearched moves.now target trail.old }
     requires places { (target < moves.now.papers) × (member < moves.now.members) }
     requires closed { Drops moves.now member target → ⊥ }
-    ensures steps { IfSome result (λ i. AreSteps moves.now trail.new × IsRoomy moves.now trail.new) }
+    ensures steps { AreSteps moves.now trail.new × IsRoomy moves.now trail.new }
     ensures some { IfSome result (λ i. (i < trail.new.count) × (trail.new.root ≤ i)
         × Drops moves.now (step_of trail.new i).member target
         × ((step_of trail.new trail.new.root).member ≡ member)) }
@@ -243,15 +243,6 @@ pub fn explore_from(moves: &Moves, trail: &mut Trail, target: usize, member: usi
     }
     root(trail, member);
     explore(moves, trail, target)
-}
-
-/// Begins anew at a member: a step that comes from itself.
-pub fn begin(trail: &mut Trail, member: usize)
-    requires room { (0 < length trail.old.steps.items) × (member < 64 * length trail.old.members.items) }
-    ensures { Begins member trail.old trail.new }
-{
-    forget(trail);
-    reach(trail, member, 0, 0);
 }
 
 /// Looks again at each step. Papers are reached anew, since they may take more members now.

@@ -2,16 +2,29 @@ use Rattle.cr_match.proofs.Common.{◌≡◌, ◌≢◌, ℕ, ◌+◌, ◌*◌, 
 use Rattle.cr_match.proofs.Common.{Turns, step_of, Step}
 use Rattle.cr_match.proofs.Closed.{IsClosed, closed_of, rise, some, stuck}
 use Rattle.cr_match.proofs.Counts.{same_total}
+use Rattle.cr_match.proofs.Reached.{forgotten}
+use Rattle.cr_match.proofs.Common.{length}
 use Rattle.cr_match.proofs.Raised.{small_after, still_fitting, still_begun}
 use Rattle.cr_match.proofs.Served.{begun_all, one_more, served}
 use Rattle.cr_match.proofs.raise.serve.Goals.{After-turn, After-gap-step, After-reprice, After-again}
 use Rattle.cr_match.proofs.raise.serve.Goals as goal
 
+pub root-requires : goal.root-requires
+root-requires c = record {
+  room = (
+    omega (arith, c.forget.ensures.none.0, ap (λ (x : List Step). length x) c.forget.ensures.sides.2, c.requires.trail.steps),
+    omega (arith, c.forget.ensures.sides.1, c.requires.trail.members.1, c.requires.fitting.alike.members.1),
+  );
+}
+
 pub prices-init : goal.prices-init
 prices-init c = (
   c.requires.fitting,
-  begun_all c.args.board.now c.args.levels.now c.args.draft.now c.args.trail.now c.begin.new.trail c.requires.fitting
-      c.requires.trail c.begin.ensures,
+  begun_all c.args.board.now c.args.levels.now c.args.draft.now c.forget.new.trail c.root.new.trail c.requires.fitting
+      (forgotten c.args.draft.now.moves c.args.board.now.papers c.args.trail.now c.forget.new.trail c.requires.trail
+      c.forget.ensures.sides.0 c.forget.ensures.sides.1 c.forget.ensures.sides.2 c.forget.ensures.none
+      c.forget.ensures.papers c.forget.ensures.members) c.forget.ensures.none.0 c.root.ensures.reaches
+      c.root.ensures.root,
   refl,
   omega arith,
 )

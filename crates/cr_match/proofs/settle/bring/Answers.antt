@@ -32,7 +32,7 @@ returns-clause-trail c =
     (c.add.ensures.adds.sides.papers ∙ c.turn.ensures.turns.sides.papers)
     (c.add.ensures.adds.sides.members ∙ c.turn.ensures.turns.sides.members)
     (c.add.ensures.adds.sides.wide ∙ c.turn.ensures.turns.sides.wide)
-    (c.add.ensures.adds.sides.tall ∙ c.turn.ensures.turns.sides.tall) c.in-Some.ensures.steps.1)
+    (c.add.ensures.adds.sides.tall ∙ c.turn.ensures.turns.sides.tall) c.explore_from.ensures.steps.1)
     c.forget.ensures.sides.0 c.forget.ensures.sides.1 c.forget.ensures.sides.2 c.forget.ensures.none
     c.forget.ensures.papers c.forget.ensures.members
 
