@@ -1,5 +1,6 @@
 pub mod AcceptedLaws
 pub mod AnswerLaws
+pub mod AskingLaws
 pub mod CommentLaws
 pub mod ContentLaws
 pub mod FieldLaws

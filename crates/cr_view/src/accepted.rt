@@ -75,7 +75,7 @@ impl Live {
     /// first; an error only for lack of memory. A walk over all papers, which costs each what `is_accepted`
     /// does; of those that are accepted two more, and a look-up for each author. Shares the titles, and
     /// takes no memory but for the answer.
-    pub fn accepted_papers(&self, alloc: Global) -> Result<AcceptedPapers, AllocError>
+    pub fn accepted(&self, alloc: Global) -> Result<AcceptedPapers, AllocError>
         ensures { IfOk result (λ papers. papers
             ≡ accepted_by (facts_of_tables self.now.tables None) (shown_in_tables self.now.tables)) }
     {
@@ -109,7 +109,7 @@ impl Live {
             ≡ accepted_paper (facts_of_tables self.now.tables None) (shown_in_tables self.now.tables) paper) }
     {
         let authors = self.names(alloc, self.ties.authors(paper, &mut Steps::uncounted()))?;
-        let title = self.title_or_none(alloc, paper)?;
+        let title = self.title_of(alloc, paper)?;
         Ok(AcceptedPaper {
             authors,
             paper,
@@ -118,7 +118,7 @@ impl Live {
     }
 
     /// The paper's last title, shared; no bytes where there is no such paper. An error only for lack of memory.
-    fn title_or_none(&self, alloc: Global, paper: PaperNo) -> Result<Text, AllocError>
+    pub fn title_of(&self, alloc: Global, paper: PaperNo) -> Result<Text, AllocError>
         ensures { IfOk result (λ title. title ≡ unwrap_or (title_at self.now.tables.papers paper) []) }
     {
         match self.papers.last_title(paper, &mut Steps::uncounted()) {

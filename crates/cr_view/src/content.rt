@@ -45,7 +45,7 @@ impl Live {
     }
 
     /// The content, lent, or the first broken rule.
-    fn content_told(
+    pub(crate) fn content_told(
         &self,
         user: &Option<UserNo>,
         paper: &Option<PaperNo>,

@@ -3,6 +3,7 @@
 #![tactic(auto)]
 
 mod accepted;
+mod asking;
 mod comments;
 mod content;
 mod facts;

@@ -54,7 +54,7 @@ fn may_see_page(facts: &PaperFacts<'_>) -> bool
 /// Who may ask.
 impl Live {
     /// What is asked of the paper whose page she may see, or the first broken rule.
-    fn page_facts<L: Ledger>(
+    pub(crate) fn page_facts<L: Ledger>(
         &self,
         user: &Option<UserNo>,
         paper: &Option<PaperNo>,
@@ -119,7 +119,7 @@ impl Live {
     /// version and each tag that is told, and, where reviewers are told, one for each who was ever assigned, at
     /// most 26, and a walk over the paper's forms; a content one look-up, whatever its length; the deadlines five
     /// reads; what she is told of herself, the accepted papers, reviews, response and comments as `me`,
-    /// `accepted_papers`, `reviews_for`, `response_for` and `comments_for` tell it.
+    /// `accepted`, `reviews_for`, `response_for` and `comments_for` tell it.
     pub fn answer(
         &self,
         alloc: Global,
@@ -135,7 +135,7 @@ impl Live {
             Query::Accounts => Ok(Reply::Accounts(self.accounts(alloc)?)),
             Query::Phase => Ok(Reply::Conference(self.conference())),
             Query::Deadlines => Ok(Reply::Deadlines(self.deadlines(alloc)?)),
-            Query::AcceptedPapers => Ok(Reply::AcceptedPapers(self.accepted_papers(alloc)?)),
+            Query::AcceptedPapers => Ok(Reply::AcceptedPapers(self.accepted(alloc)?)),
             Query::Page { paper } => self.page_reply(alloc, caller, paper),
             Query::Content { paper } => self.content_reply(caller, paper, None),
             Query::Version { paper, version } => self.content_reply(caller, paper, Some(*version)),

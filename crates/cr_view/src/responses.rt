@@ -68,7 +68,11 @@ impl Live {
     }
 
     /// The response, lent, or the first broken rule.
-    fn response_told(&self, user: &Option<UserNo>, paper: &Option<PaperNo>) -> Result<&Text, Rule>
+    pub(crate) fn response_told(
+        &self,
+        user: &Option<UserNo>,
+        paper: &Option<PaperNo>,
+    ) -> Result<&Text, Rule>
         ensures response { IfOk result (λ text. response_due self.now.tables user.now paper.now ≡ Ok text.now) }
         ensures rule { IfErr result (λ rule. response_due self.now.tables user.now paper.now ≡ Err rule) }
     {

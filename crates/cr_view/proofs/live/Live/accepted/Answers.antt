@@ -5,7 +5,7 @@ use Rattle.cr_base.specs.Papers.{paper_count}
 use Rattle.cr_base.specs.Sources.{facts_of_tables, is_accepted_in, shown_in_tables}
 use Rattle.cr_view.specs.Seen.{SeenTables}
 use Rattle.cr_view.proofs.AcceptedLaws.{papers-step, papers-all}
-use Rattle.cr_view.proofs.live.Live.accepted_papers.Goals as goal
+use Rattle.cr_view.proofs.live.Live.accepted.Goals as goal
 
 pub loop-before-preserved : goal.loop-before-preserved
 loop-before-preserved c =

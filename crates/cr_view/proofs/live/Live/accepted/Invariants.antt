@@ -1,7 +1,7 @@
 use Rattle.std.proofs.Common.{◌≡◌, ◌++◌, drop}
 use Rattle.cr_base.specs.Papers.{paper_numbers}
 use Rattle.cr_view.specs.Accepted.{accepted_of}
-use Rattle.cr_view.proofs.live.Live.accepted_papers.Given as goal
+use Rattle.cr_view.proofs.live.Live.accepted.Given as goal
 
 abbrev pub invariant-loop-before : goal.invariant-loop-before
 invariant-loop-before l =
