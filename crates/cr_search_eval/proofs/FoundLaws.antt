@@ -1,72 +1,44 @@
 -- A walk over the papers that tells of those that are found.
-use Rattle.std.proofs.Common.{ℕ, Bool, true, false, cond, ◌≡◌, ◌&&◌, List, [], length, Option, Some, None, refl, sym}
-use Rattle.std.proofs.Common.{ap, ◌∙◌}
-use Rattle.std.specs.Prelude.{is_some, unwrap_or}
-use Rattle.std.specs.Option.{option_map}
+use Rattle.std.proofs.Common.{ℕ, Bool, true, false, cond, ◌≡◌, ◌&&◌, List, [], ◌∷◌, Option, Some, refl, sym}
+use Rattle.std.specs.Prelude.{filter, is_some, map, unwrap_or}
+use Rattle.std.proofs.lemmas.Bool.{true≢false}
 use Rattle.cr_base.specs.declared.found.FoundPaper.{FoundPaper}
 use Rattle.cr_base.specs.declared.search.Step.{Step}
-use Rattle.cr_base.specs.Lists.{given, listed}
-use Rattle.cr_base.specs.Searching.{PaperTold, found_paper, is_found, search_holds, term_holds}
+use Rattle.cr_base.specs.Answering.{found_by}
+use Rattle.cr_base.specs.Page.{gets_title, where_told}
+use Rattle.cr_base.specs.Papers.{paper_numbers, title_at}
+use Rattle.cr_base.specs.Searching.{found_paper, is_found, search_holds, term_holds}
+use Rattle.cr_base.specs.Sources.{facts_of_tables, is_accepted_in, shown_in_tables, standing_at}
 use Rattle.cr_base.specs.Tables.{Tables}
-use Rattle.cr_search_eval.specs.declared.asked.Asked.{Asked}
-use Rattle.cr_search_eval.specs.Asked.{asked_of, title_found, told_at}
-use Rattle.cr_search_eval.specs.Found.{told_to}
+use Rattle.cr_search_eval.specs.Found.{papers_found, titled, told_to}
 
--- ---- one paper
-
-pub found-given : (p : ℕ) (told : PaperTold) (search : List Step)
-    → ◌≡◌ {A = List FoundPaper}
-    (listed (option_map (λ (title : List ℕ). record { paper = p; title = title }) (title_found told search)))
-    (given (is_found told search) (found_paper p told))
-found-given p told search = by told.page.title (search_holds (term_holds told) search)
+-- where two are the same of each that passes a test, they are the same of all that do
+those-same : {A : Type 0} (test : ℕ → Bool) (one other : ℕ → A) → ((p : ℕ) → test p ≡ true → one p ≡ other p)
+    → (ps : List ℕ) → map one (filter test ps) ≡ map other (filter test ps)
+those-same test one other same [] = refl
+those-same {A} test one other same (p ∷ ps) = by (test p) refl (those-same test one other same ps)
   where
-    by : (title : Option (List ℕ)) (holds : Bool)
-        → ◌≡◌ {A = List FoundPaper}
-        (listed (option_map (λ (text : List ℕ). record { paper = p; title = text }) (cond holds title None)))
-        (given (is_some title && holds) (record { paper = p; title = unwrap_or title [] }))
-    by None true = refl
-    by None false = refl
-    by (Some title) true = refl
-    by (Some title) false = refl
+    by : (b : Bool) → test p ≡ b → map one (filter test ps) ≡ map other (filter test ps)
+        → map one (cond b (p ∷ filter test ps) (filter test ps))
+        ≡ map other (cond b (p ∷ filter test ps) (filter test ps))
+    by true is rest = λ i. same p is i ∷ rest i
+    by false is rest = rest
 
--- and how many papers that is
-pub found-length : (p : ℕ) (told : PaperTold) (search : List Step)
-    → length (listed (title_found told search)) ≡ length (given (is_found told search) (found_paper p told))
-found-length p told search = by told.page.title (search_holds (term_holds told) search)
-  where
-    by : (title : Option (List ℕ)) (holds : Bool)
-        → length (listed (cond holds title None))
-        ≡ length (given {A = FoundPaper} (is_some title && holds) (record { paper = p; title = unwrap_or title [] }))
-    by None true = refl
-    by None false = refl
-    by (Some title) true = refl
-    by (Some title) false = refl
-
--- ---- as a paper is asked of
-
-module _ (t : Tables) (user p : ℕ) (asked : Asked) (is : asked ≡ asked_of t user p) (search : List Step) where
-  -- its title, where the search holds of it, and none where it doesn't
-  pub title-found : (title : Option (List ℕ)) → title ≡ (told_at t asked).page.title
-      → search_holds (term_holds (told_at t asked)) search ≡ true
-      → title ≡ title_found (told_to t user p) search
-  title-found title told holds =
-      told ∙ sym (ap (λ (b : Bool). cond b (told_at t asked).page.title None) holds)
-      ∙ ap (λ (a : Asked). title_found (told_at t a) search) is
-
-  pub title-untold : None ≡ (told_at t asked).page.title → None ≡ title_found (told_to t user p) search
-  title-untold none =
-      by (told_at t asked).page.title (search_holds (term_holds (told_at t asked)) search) none
-      ∙ ap (λ (a : Asked). title_found (told_to_at a) search) is
+module _ (t : Tables) (user : ℕ) (search : List Step) where
+  -- of a paper that is found the last title is told
+  found-titled : (p : ℕ) → is_found (told_to t user p) search ≡ true → titled t p ≡ found_paper p (told_to t user p)
+  found-titled p is =
+      by (gets_title (standing_at t (Some user) (Some p)) (is_accepted_in t p)) (title_at t.papers p)
+      (search_holds (term_holds (told_to t user p)) search) is
     where
-      told_to_at : Asked → PaperTold
-      told_to_at a = told_at t a
+      by : (told : Bool) (title : Option (List ℕ)) (holds : Bool) → (is_some (where_told told title) && holds) ≡ true
+          → ◌≡◌ {A = FoundPaper} (record { paper = p; title = unwrap_or title [] })
+          (record { paper = p; title = unwrap_or (where_told told title) [] })
+      by true title holds is = refl
+      by false title holds is = absurd (true≢false (sym is))
 
-      by : (title : Option (List ℕ)) (holds : Bool) → None ≡ title → None ≡ cond holds title None
-      by title true none = none
-      by title false none = refl
-
-  pub title-unfound : search_holds (term_holds (told_at t asked)) search ≡ false
-      → None ≡ title_found (told_to t user p) search
-  title-unfound fails =
-      sym (ap (λ (b : Bool). cond b (told_at t asked).page.title None) fails)
-      ∙ ap (λ (a : Asked). title_found (told_at t a) search) is
+  pub all-titled : map (titled t) (papers_found t user search)
+      ≡ found_by (facts_of_tables t (Some user)) (shown_in_tables t) (Some user) search
+  all-titled =
+      those-same (λ p. is_found (told_to t user p) search) (titled t) (λ p. found_paper p (told_to t user p))
+      found-titled (paper_numbers t.papers)

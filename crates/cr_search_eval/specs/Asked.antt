@@ -1,5 +1,5 @@
 -- What a user who asks of a paper is told of it, by the tables.
-use Rattle.std.specs.Prelude.{ℕ, ◌≡◌, List, Option, Some, None, if◌then◌else◌}
+use Rattle.std.specs.Prelude.{ℕ, ◌≡◌, List, Option, Some}
 use Rattle.cr_base.specs.declared.search.Step.{Step}
 use Rattle.cr_base.specs.declared.words.Decision.{Decision}
 use Rattle.cr_base.specs.Page.{gets_abstract, gets_decision, gets_title, where_told}
@@ -38,7 +38,3 @@ abstract_told s = where_told (gets_abstract s.by (accepted_seen s)) (abstract_se
 
 abbrev pub decision_told : PaperSeen → Option (Option Decision)
 decision_told s = where_told (gets_decision s.by (accepted_seen s)) (Some (decision_seen s))
-
--- the title of a paper of which that is told, where the search holds of it
-abbrev pub title_found : PaperTold → List Step → Option (List ℕ)
-title_found told steps = if search_holds (term_holds told) steps then told.page.title else None

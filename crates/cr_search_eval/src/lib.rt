@@ -8,4 +8,4 @@ mod papers;
 mod terms;
 mod text;
 
-pub use papers::{answer, count, found};
+pub use papers::{answer, count, found, matches, search};

@@ -1,96 +1,107 @@
 //! The papers that a search finds.
 ghost use Rattle.std.specs.Prelude.{◌≡◌, ◌≤◌, ◌++◌, IfOk, OnOk, IsSome, Some, length};
-ghost use Rattle.std.specs.Option.{option_copied, option_map};
 ghost use Rattle.cr_base.specs.Answering.{found_by, search_told};
-ghost use Rattle.cr_base.specs.Lists.{listed};
+ghost use Rattle.cr_base.specs.Lists.{given};
+ghost use Rattle.cr_base.specs.Searching.{is_found};
 ghost use Rattle.cr_base.specs.Sources.{facts_of_tables, shown_in_tables};
-ghost use Rattle.cr_search_eval.specs.Asked.{title_found};
-ghost use Rattle.cr_search_eval.specs.Found.{told_to};
+ghost use Rattle.cr_search_eval.specs.Found.{papers_found, titled, told_to};
 
 use crate::asked::Asked;
 use crate::evaluate::search_holds;
-use cr_base::{FoundPaper, FoundPapers, PaperNo, Reply, Search, Text, UserNo};
+use cr_base::{FoundPaper, FoundPapers, PaperNo, Reply, Search, UserNo};
 use cr_view::Live;
 use std::alloc::{AllocError, Global};
 
-/// The title of the paper, where the user is told one and the search holds of it. Without one no term is tried.
-fn title_found<'a>(
-    live: &'a Live,
-    user: UserNo,
-    search: &Search,
-    paper: PaperNo,
-) -> Option<&'a Text>
-    ensures { option_copied result ≡ title_found (told_to live.now.tables user paper) search.now }
+/// Whether the search finds the paper for the user: she is told its title, and the search holds of what she is told of
+/// it. Without a title no term is tried. It costs what `facts` of the tables does, and for each term that decides it
+/// what its field costs beside; takes no memory.
+pub fn matches(live: &Live, user: UserNo, search: &Search, paper: PaperNo) -> bool
+    ensures { result ≡ is_found (told_to live.now.tables user paper) search.now }
 {
     let asked = Asked::new(live, user, paper);
-    let title = asked.facts.title_told()?;
-    if search_holds(live, &asked, search) {
-        Some(title)
-    } else {
-        None
+    if asked.facts.title_told().is_none() {
+        return false;
     }
+    search_holds(live, &asked, search)
 }
 
-/// How many papers that is: 1, or none.
-fn count_one(live: &Live, user: UserNo, search: &Search, paper: PaperNo) -> u64
-    ensures value { result ≡ length (listed (title_found (told_to live.now.tables user paper) search.now)) }
-    ensures few { result ≤ 1 }
-{
-    match title_found(live, user, search, paper) {
-        Some(_) => 1,
-        None => 0,
-    }
-}
-
-/// The papers that the search finds for the user, by number, each with its last title; an error only for
-/// lack of memory. A walk over all papers, which costs each what `facts` of the tables does, and for each term that
-/// decides it what its field costs beside. Shares the titles, and takes no memory but for the answer.
-pub fn found(
+/// The papers that the search finds for the user, by number; an error only for lack of memory. A walk over all papers,
+/// each of which costs what `matches` does.
+pub fn search(
     alloc: Global,
     live: &Live,
     user: UserNo,
     search: &Search,
-) -> Result<FoundPapers, AllocError>
-    ensures { IfOk result (λ found. found
-        ≡ found_by (facts_of_tables live.now.tables (Some user)) (shown_in_tables live.now.tables)
-        (Some user) search.now) }
+) -> Result<Vec<PaperNo>, AllocError>
+    ensures { IfOk result (λ papers. papers.items ≡ papers_found live.now.tables user search.now) }
 {
     let mut papers = Vec::new(alloc);
     for before in 0..live.paper_count() {
         let paper = PaperNo::new(before + 1);
-        push_found(&mut papers, paper, title_found(live, user, search, paper))?;
+        push_where(&mut papers, matches(live, user, search, paper), paper)?;
     }
-    Ok(FoundPapers::from_vec(papers))
+    Ok(papers)
 }
 
-/// Adds the paper under its title, where it is found; an error only for lack of memory.
-fn push_found(
-    papers: &mut Vec<FoundPaper>,
-    paper: PaperNo,
-    title: Option<&Text>,
-) -> Result<(), AllocError>
-    ensures { OnOk result (papers.new.items
-        ≡ papers.old.items
-        ++ listed (option_map (λ title. record { paper = paper; title = title }) (option_copied title.entry))) }
+/// Adds the paper, where it is found; an error only for lack of memory.
+fn push_where(papers: &mut Vec<PaperNo>, found: bool, paper: PaperNo) -> Result<(), AllocError>
+    ensures { OnOk result (papers.new.items ≡ papers.old.items ++ given found paper) }
 {
-    if let Some(title) = title {
-        let title = title.copy()?;
-        papers.push(FoundPaper { paper, title })?;
+    if found {
+        papers.push(paper)?;
     }
     Ok(())
 }
 
+/// How many papers that is: 1, or none.
+fn count_one(live: &Live, user: UserNo, search: &Search, paper: PaperNo) -> u64
+    ensures value { result ≡ length (given (is_found (told_to live.now.tables user paper) search.now) paper) }
+    ensures few { result ≤ 1 }
+{
+    if matches(live, user, search, paper) {
+        return 1;
+    }
+    0
+}
+
 /// How many papers the search finds for the user. The same walk; takes no memory.
 pub fn count(live: &Live, user: UserNo, search: &Search) -> u64
-    ensures { result
-        ≡ length (found_by (facts_of_tables live.now.tables (Some user)) (shown_in_tables live.now.tables)
-        (Some user) search.now) }
+    ensures { result ≡ length (papers_found live.now.tables user search.now) }
 {
     let mut count = 0;
     for before in 0..live.paper_count() {
         count += count_one(live, user, search, PaperNo::new(before + 1));
     }
     count
+}
+
+/// The papers that the search finds for the user, by number, each with its last title; an error only for lack of
+/// memory. It costs what `search` does, and one look-up for each that is found. Shares the titles, and takes no memory
+/// but for the answer.
+pub fn found(
+    alloc: Global,
+    live: &Live,
+    user: UserNo,
+    sought: &Search,
+) -> Result<FoundPapers, AllocError>
+    ensures { IfOk result (λ found. found
+        ≡ found_by (facts_of_tables live.now.tables (Some user)) (shown_in_tables live.now.tables)
+        (Some user) sought.now) }
+{
+    let papers = search(alloc, live, user, sought)?;
+    let mut found = Vec::with_capacity(alloc, papers.len())?;
+    for paper in papers {
+        found.push(with_title(alloc, live, paper)?)?;
+    }
+    Ok(FoundPapers::from_vec(found))
+}
+
+/// The paper with its last title; an error only for lack of memory.
+fn with_title(alloc: Global, live: &Live, paper: PaperNo) -> Result<FoundPaper, AllocError>
+    ensures { IfOk result (λ found. found ≡ titled live.now.tables paper) }
+{
+    let title = live.title_of(alloc, paper)?;
+    Ok(FoundPaper { paper, title })
 }
 
 /// What a caller is answered to a search, the papers or how many there are; an error only for lack of memory.

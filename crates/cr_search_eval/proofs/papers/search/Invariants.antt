@@ -1,0 +1,11 @@
+use Rattle.std.proofs.Common.{ℕ, ◌≡◌, ◌++◌, drop, map}
+use Rattle.cr_base.specs.Papers.{paper_numbers}
+use Rattle.cr_search_eval.specs.Found.{found_of, papers_found}
+use Rattle.cr_search_eval.proofs.papers.search.Given as goal
+
+abbrev pub invariant-loop-before : goal.invariant-loop-before
+invariant-loop-before l =
+    l.papers.items
+    ++ map (λ (p : ℕ). p)
+    (found_of l.live.tables l.user l.search (drop l.before (paper_numbers l.live.tables.papers)))
+    ≡ map (λ (p : ℕ). p) (papers_found l.live.tables l.user l.search)
