@@ -18,3 +18,4 @@ mod tally;
 mod told;
 
 pub use reports::answer;
+pub use told::{decisions, letter, load, papers, scores};
