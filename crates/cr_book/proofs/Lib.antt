@@ -1,3 +1,4 @@
+pub mod AskingLaws
 pub mod BookLaws
 pub mod EarlierLaws
 pub mod FollowLaws

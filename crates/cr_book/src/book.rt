@@ -449,7 +449,8 @@ impl<K: Keeper> Book<K> {
     /// The answer to a query of this caller, a registered user, or nobody where no login is wanted for the
     /// query; or the first broken rule, which is told whatever memory there is, but for `NoPlan`, which memory finds.
     /// `AnswerError::OutOfMemory` comes for lack of memory alone, and never where the state of the conference is asked
-    /// for. The keeper isn't asked. `Query::Accounts` costs a walk over all accounts, `Query::AcceptedPapers` one over
+    /// for. The keeper isn't asked. Its rules are asked first, which costs what `may` of `cr_view` does; a query that
+    /// breaks none costs besides: `Query::Accounts` a walk over all accounts, `Query::AcceptedPapers` one over
     /// all papers, with a few look-ups for each that is accepted, `Query::Page` a few look-ups, one more for each name
     /// that is told, a step for each version and each tag that is told, and, where reviewers are told, a walk over the
     /// paper's forms, `Query::Me` what `me` of `cr_view` does, `Query::Reviews` a walk over the paper's forms, and two
@@ -464,6 +465,9 @@ impl<K: Keeper> Book<K> {
         ensures answered { AnswersOrPlans result (answer caller.now (view caller.now self.now.log) query.now) }
         ensures sure { OnErr result (query.now ≢ queries.Phase) }
     {
+        if let Err(rule) = self.live.may(caller, query) {
+            return Err(AnswerError::Rule(rule));
+        }
         match query {
             Query::Search { search, only_count } => self.answer_search(caller, search, *only_count),
             Query::Report { report } => self.answer_report(caller, report),

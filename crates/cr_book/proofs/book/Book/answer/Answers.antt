@@ -8,8 +8,24 @@ use Rattle.cr_policy.specs.View.{view}
 use Rattle.cr_view.specs.Replies.{AnswersAsDue, AnswersOrPlans}
 use Rattle.cr_view.proofs.AnswerLaws.{or-plans}
 use Rattle.cr_book.specs.Seen.{SeenBook}
+use Rattle.cr_book.proofs.AskingLaws.{phase-told, rule-told}
 use Rattle.cr_book.proofs.BookLaws.{answered-by_view, asker-there}
 use Rattle.cr_book.proofs.book.Book.answer.Goals as goal
+
+pub returns-in-Err-clause-answered : goal.returns-in-Err-clause-answered
+returns-in-Err-clause-answered g c =
+    let u = c.args.caller.now in
+    let q = c.args.query.now in
+    let t = c.self.inside.live.tables in
+    let same = ap (λ (v : SeenBook g.row.K.Denot). v.log) c.self.view_is in
+    sym
+    (answered-by_view g.K.Keeper.rows c.self.inside.log.entries t c.self.inside.keeper u q c.self.invariant.0
+    ∙ ap (λ (h : History). answer u (view u h) q) same)
+    ∙ rule-told t u q c.in-Err.rule c.in-Err.ensures
+
+pub returns-in-Err-clause-sure : goal.returns-in-Err-clause-sure
+returns-in-Err-clause-sure g c =
+    phase-told c.self.inside.live.tables c.args.caller.now c.args.query.now c.in-Err.rule c.in-Err.ensures
 
 pub answer_search-requires : goal.answer_search-requires
 answer_search-requires g c =
