@@ -5,4 +5,3 @@ pub mod Standing
 pub mod Keeping
 pub mod Stored
 pub mod Shelving
-pub mod Either

@@ -2,7 +2,6 @@
 //! found after a stop at any moment, also where the disk tears what it hadn't synced.
 #![tactic(auto)]
 
-mod either;
 mod journal;
 mod keeper;
 mod laws;
@@ -13,7 +12,6 @@ mod state;
 mod steps;
 mod writing;
 
-pub use either::EitherKeeper;
 pub use keeper::{JournalKeeper, law_stops};
 pub use laws::law_one_reading;
 pub use opening::OpenError;

@@ -8,6 +8,7 @@ pub mod Memory
 pub mod Keeping
 pub mod Adapter
 pub mod Shelving
+pub mod Either
 pub mod Writing
 pub mod Doors
 pub mod Opening

@@ -24,11 +24,22 @@ pub trait Keeper {
     /// How often a call has failed.
     ghost faults: { Self → ℕ };
 
-    /// Whether it tells what a stop of the machine may leave. The four below speak of a keeper that does.
-    ghost tells_stops: { Bool };
+    /// Which it is of several kinds that one type may have, by the choices that lead to it. No call changes it.
+    ghost kind: { Self → List Bool };
 
-    /// It tells its rows as well.
-    ghost rows_told: { IsTrue tells_stops → (keeper : Self) → IsTrue (is_some (rows keeper)) };
+    /// Whether it tells what a stop of the machine may leave. The four further below speak of a keeper that does.
+    ghost tells_stops: { Self → Bool };
+
+    /// Keepers of one kind all do, or none does.
+    ghost tells_alike: { (keeper other : Self) → kind keeper ≡ kind other
+        → tells_stops keeper ≡ tells_stops other };
+
+    /// And all of them tell their rows, or none does.
+    ghost rows_alike: { (keeper other : Self) → kind keeper ≡ kind other
+        → is_some (rows keeper) ≡ is_some (rows other) };
+
+    /// A keeper that does tells its rows as well.
+    ghost rows_told: { (keeper : Self) → IsTrue (tells_stops keeper) → IsTrue (is_some (rows keeper)) };
 
     /// The groups of which after a stop one may be found, whole, behind the rows: their appends failed since the last
     /// that was kept.
@@ -53,12 +64,13 @@ pub trait Keeper {
     fn append_all(&mut self, added: &[Row]) -> Result<(), KeeperError>
         ensures kept { OnOk result (rows self.new ≡ and_rows (rows self.old) added.now) }
         ensures refused { OnErr result (rows self.new ≡ rows self.old) }
-        ensures tried { IsTrue tells_stops → TriedAfter result (tried self.old) added.now (tried self.new) }
-        ensures stops { IsTrue tells_stops → LeavesOnly moment left_since self.old self.new
+        ensures alike { kind self.new ≡ kind self.old }
+        ensures tried { IsTrue (tells_stops self.old) → TriedAfter result (tried self.old) added.now (tried self.new) }
+        ensures stops { IsTrue (tells_stops self.old) → LeavesOnly moment left_since self.old self.new
             (OpensToTold opens (rows self.old) (added.now ∷ tried self.old)) }
-        ensures between { IsTrue tells_stops → (image : List ℕ) → left_since self.new (moment self.new) image
+        ensures between { IsTrue (tells_stops self.old) → (image : List ℕ) → left_since self.new (moment self.new) image
             → OpensToTold opens (rows self.new) (tried self.new) image }
-        ensures untried { IsTrue tells_stops → result ≡ Err KeeperError.OutOfMemory → self.new ≡ self.old }
+        ensures untried { IsTrue (tells_stops self.old) → result ≡ Err KeeperError.OutOfMemory → self.new ≡ self.old }
         ensures cause { HasCause (faults self.old) (faults self.new) result };
 
     /// How many rows are kept. What a stop leaves before the next call opens to the rows, or to these and then whole
@@ -70,8 +82,9 @@ pub trait Keeper {
     fn len(&mut self) -> Result<u64, KeeperError>
         ensures told { IfOk result (λ n. IfSome (rows self.old) (λ rows. n ≡ length rows)) }
         ensures same { rows self.new ≡ rows self.old }
-        ensures still { IsTrue tells_stops → self.new ≡ self.old }
-        ensures between { IsTrue tells_stops → (image : List ℕ) → left_since self.old (moment self.old) image
+        ensures alike { kind self.new ≡ kind self.old }
+        ensures still { IsTrue (tells_stops self.old) → self.new ≡ self.old }
+        ensures between { IsTrue (tells_stops self.old) → (image : List ℕ) → left_since self.old (moment self.old) image
             → OpensToTold opens (rows self.old) (tried self.old) image }
         ensures cause { HasCause (faults self.old) (faults self.new) result };
 
@@ -83,6 +96,7 @@ pub trait Keeper {
         requires { IfSome (rows self.old) (λ rows. at < length rows) }
         ensures told { IfOk result (λ row. IfSome (rows self.old) (λ rows. slice_get rows at ≡ Some row)) }
         ensures same { rows self.new ≡ rows self.old }
-        ensures still { IsTrue tells_stops → self.new ≡ self.old }
+        ensures alike { kind self.new ≡ kind self.old }
+        ensures still { IsTrue (tells_stops self.old) → self.new ≡ self.old }
         ensures cause { HasCause (faults self.old) (faults self.new) result };
 }

@@ -142,9 +142,15 @@ impl Keeper for MemKeeper {
 
     ghost faults = { λ k. k.faults };
 
-    ghost tells_stops = { false };
+    ghost kind = { λ _. [] };
 
-    ghost rows_told = { λ told keeper i. true };
+    ghost tells_stops = { λ _. false };
+
+    ghost tells_alike = { λ keeper other same i. false };
+
+    ghost rows_alike = { λ keeper other same i. true };
+
+    ghost rows_told = { λ keeper told i. true };
 
     ghost tried = { λ _. [] };
 
@@ -236,9 +242,15 @@ impl Keeper for PlainKeeper {
 
     ghost faults = { λ _. 0 };
 
-    ghost tells_stops = { false };
+    ghost kind = { λ _. [] };
 
-    ghost rows_told = { λ told keeper i. true };
+    ghost tells_stops = { λ _. false };
+
+    ghost tells_alike = { λ keeper other same i. false };
+
+    ghost rows_alike = { λ keeper other same i. true };
+
+    ghost rows_told = { λ keeper told i. true };
 
     ghost tried = { λ _. [] };
 

@@ -1,5 +1,5 @@
 //! What opens keepers by their paths.
-ghost use Rattle.std.specs.Prelude.{◌≡◌, ◌≢◌, ◌↔◌, [], ℕ, List, Option, Some, IfOk, IsTrue, OnOk, IfSome};
+ghost use Rattle.std.specs.Prelude.{◌≡◌, ◌≢◌, ◌↔◌, [], ℕ, Bool, List, Option, Some, IfOk, IsTrue, IfSome};
 ghost use Rattle.cr_base.specs.declared.row.Row.{Row};
 ghost use Rattle.cr_ports.specs.Count.{Gains};
 ghost use Rattle.cr_ports.specs.Keeping.{HasCause};
@@ -15,14 +15,18 @@ pub trait Shelf {
     /// The rows at a path, where the shelf tells them there; those that a keeper appends stand there once it was shut.
     ghost rows: { Self → List ℕ → Option (List Row) };
 
-    /// Of which paths a keeper may be taken back.
-    ghost has_opened: { Self → List ℕ → Type 0 };
+    /// Whether the keepers that it opens at a path tell what a stop may leave.
+    ghost tells_stops: { Self → List ℕ → Bool };
+
+    /// Of which paths a keeper of which kind may be taken back.
+    ghost has_opened: { Self → List ℕ → List Bool → Type 0 };
 
     /// How often a call of the shelf, or of a keeper that was shut, has failed.
     ghost faults: { Self → ℕ };
 
-    /// The moment at which it last opened a keeper, where its keepers tell what a stop may leave.
-    ghost opened_at: { Self → ℕ };
+    /// The moment at which it last opened a keeper, where its keepers tell what a stop may leave. Where it has several
+    /// kinds of keepers, it is the last of the kind at this path.
+    ghost opened_at: { Self → List ℕ → ℕ };
 
     /// What a stop since then might have left at a path at which it took back a keeper, where they tell that.
     ghost left: { Self → List ℕ → List ℕ → Type 0 };
@@ -36,22 +40,24 @@ pub trait Shelf {
         ensures found { IfOk result
             (λ keeper. IfSome (rows self.old path.now) (λ there. Self.Keeper.rows keeper ≡ Some there)) }
         ensures fresh { IfOk result (λ keeper. Self.Keeper.faults keeper ≡ 0) }
-        ensures opened { OnOk result (has_opened self.new path.now) }
-        ensures begins { IsTrue Self.Keeper.tells_stops → IfOk result
-            (λ keeper. (opened_at self.new ≡ Self.Keeper.moment keeper) × (Self.Keeper.tried keeper ≡ [])) }
-        ensures same { StaysOpened Self.Keeper.tells_stops path.now result (rows self.old) (rows self.new) }
+        ensures opened { IfOk result (λ keeper. has_opened self.new path.now (Self.Keeper.kind keeper)) }
+        ensures telling { IfOk result
+            (λ keeper. Self.Keeper.tells_stops keeper ≡ tells_stops self.old path.now) }
+        ensures begins { IfOk result (λ keeper. IsTrue (Self.Keeper.tells_stops keeper)
+            → (opened_at self.new path.now ≡ Self.Keeper.moment keeper) × (Self.Keeper.tried keeper ≡ [])) }
+        ensures same { StaysOpened (tells_stops self.old path.now) path.now result (rows self.old) (rows self.new) }
         ensures cause { HasCause (faults self.old) (faults self.new) result };
 
-    /// Takes back a keeper that was opened at this path. Its rows then stand there; or these and then whole one group
-    /// that was tried, of keepers that tell what a stop leaves. At each other path stands what stood there. The count
-    /// of faults rises by at least the keeper's. Takes no memory.
+    /// Takes back a keeper of a kind that was opened at this path. Its rows then stand there; or these and then whole
+    /// one group that was tried, of keepers that tell what a stop leaves. At each other path stands what stood there.
+    /// The count of faults rises by at least the keeper's. Takes no memory.
     fn shut(&mut self, path: &str, keeper: Self::Keeper)
-        requires { has_opened self.old path.now }
+        requires { has_opened self.old path.now (Self.Keeper.kind keeper) }
         ensures kept { IfSome (Self.Keeper.rows keeper)
-            (λ kept. StandsAfter Self.Keeper.tells_stops kept (Self.Keeper.tried keeper) (rows self.old path.now)
-            (rows self.new path.now)) }
+            (λ kept. StandsAfter (Self.Keeper.tells_stops keeper) kept (Self.Keeper.tried keeper)
+            (rows self.old path.now) (rows self.new path.now)) }
         ensures others { (other : List ℕ) → other ≢ path.now → rows self.new other ≡ rows self.old other }
-        ensures stops { IsTrue Self.Keeper.tells_stops → (image : List ℕ)
-            → left self.new path.now image ↔ Self.Keeper.left_since keeper (opened_at self.old) image }
+        ensures stops { IsTrue (Self.Keeper.tells_stops keeper) → (image : List ℕ)
+            → left self.new path.now image ↔ Self.Keeper.left_since keeper (opened_at self.old path.now) image }
         ensures count { Gains (faults self.old) (Self.Keeper.faults keeper) (faults self.new) };
 }

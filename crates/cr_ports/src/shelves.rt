@@ -156,11 +156,13 @@ impl Shelf for MemShelf {
 
     ghost rows = { λ s path. Some (files s.stores path) };
 
-    ghost has_opened = { λ s path. IsTrue (has_store s.stores path) };
+    ghost tells_stops = { λ _ _. false };
+
+    ghost has_opened = { λ s path _. IsTrue (has_store s.stores path) };
 
     ghost faults = { λ s. s.faults };
 
-    ghost opened_at = { λ _. 0 };
+    ghost opened_at = { λ _ _. 0 };
 
     ghost left = { λ _ _ _. ⊥ };
 

@@ -1,6 +1,8 @@
 //! Sources, sinks, clocks, keepers and shelves in memory, and the adapters over streams and over the system's clock,
 //! through their bounds.
 
+ghost use Rattle.std.specs.Prelude.{◌≡◌};
+
 use cr_base::{Blob, Moment, Row};
 use cr_ports::{
     Clock, ClockStep, Keeper, KeeperError, MemClock, MemKeeper, MemShelf, MemSink, MemSource,
@@ -249,7 +251,9 @@ fn row_of(kind: u64) -> Row {
 }
 
 /// Keeps two rows, and tells how many are kept.
-fn keep<K: Keeper>(keeper: &mut K) -> Result<u64, KeeperError> {
+fn keep<K: Keeper>(keeper: &mut K) -> Result<u64, KeeperError>
+    ensures { K.kind keeper.new ≡ K.kind keeper.old }
+{
     keeper.append_all([row_of(7), row_of(8)].as_slice())?;
     keeper.len()
 }
