@@ -83,8 +83,8 @@ impl MemDisks {
         }
     }
 
-    /// The disk that was shut last at the path; one look-up.
-    fn file_at(&self, path: &str) -> Option<&MemDisk>
+    /// The disk that was shut last at the path, with the record of its calls; one look-up.
+    pub fn file_at(&self, path: &str) -> Option<&MemDisk>
         ensures bytes { IfSome result (λ disk. disk.now.bytes ≡ bytes_at self.now.files path.now) }
         ensures state { IfSome result (λ disk. state_of disk.now ≡ state_at self.now.files path.now) }
         ensures none { IfNone result ((bytes_at self.now.files path.now ≡ [])
