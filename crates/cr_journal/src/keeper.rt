@@ -161,8 +161,8 @@ impl<D: Disk> JournalKeeper<D> {
     /// A keeper of the rows that the disk's file has as a journal. An empty file becomes a journal of no rows. All of
     /// it is read, once it is synced.
     ///
-    /// `Failed` comes only where the disk failed, which then has the bytes that it had; `NotMade` only where it failed and
-    /// had none, and may now have some; and `NoJournal` only where its bytes are no journal of any groups.
+    /// `Failed` comes only where the disk failed, which then has the bytes that it had; `NotMade` only where it failed
+    /// and had none, and may now have some; and `NoJournal` only where its bytes are no journal of any groups.
     pub fn open(alloc: Global, mut disk: D) -> Result<Self, (OpenError, D)>
         ensures found { IsTrue D.tells → IfOk result (λ k. (groups : List (List Row))
             × IsJournalOf groups (D.seen k.disk) × (rows_of groups ≡ k.rows)) }
@@ -223,9 +223,15 @@ impl<D: Disk> Keeper for JournalKeeper<D> {
 
     ghost faults = { λ k. D.faults k.disk };
 
-    ghost tells_stops = { D.tells };
+    ghost kind = { λ _. [] };
 
-    ghost rows_told = { λ told keeper i. true };
+    ghost tells_stops = { λ _. D.tells };
+
+    ghost tells_alike = { λ keeper other same i. D.tells };
+
+    ghost rows_alike = { λ keeper other same i. true };
+
+    ghost rows_told = { λ keeper told i. true };
 
     ghost tried = { λ k. k.doubted };
 

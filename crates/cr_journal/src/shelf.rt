@@ -1,6 +1,6 @@
 //! A shelf of journals over disks.
 ghost use Rattle.std.specs.Prelude.{◌≡◌, ◌≢◌, ◌⊎◌, ◌+◌, ◌≤◌, ℕ, [], List, Some, Err};
-ghost use Rattle.std.specs.Prelude.{IfOk, IfSome, OnOk, IsTrue, IsFalse};
+ghost use Rattle.std.specs.Prelude.{IfOk, IfSome, IsTrue, IsFalse};
 ghost use Rattle.cr_base.specs.declared.row.Row.{Row};
 ghost use Rattle.cr_disks.specs.Disk.{Only, with_bytes};
 ghost use Rattle.cr_ports.specs.Count.{Gains, Rises};
@@ -109,11 +109,13 @@ impl<D: Disks> Shelf for JournalShelf<D> {
 
     ghost rows = { λ s path. rows_at D.Disk.tells (D.files s.disks) path };
 
-    ghost has_opened = { λ s path. D.has_opened s.disks path };
+    ghost tells_stops = { λ _ _. D.Disk.tells };
+
+    ghost has_opened = { λ s path _. D.has_opened s.disks path };
 
     ghost faults = { λ s. D.faults s.disks + s.refused };
 
-    ghost opened_at = { λ s. opened_at D.Disk.moment s };
+    ghost opened_at = { λ s _. opened_at D.Disk.moment s };
 
     ghost left = { λ s path image. D.left s.disks path (opened_at D.Disk.moment s) image };
 
@@ -123,9 +125,9 @@ impl<D: Disks> Shelf for JournalShelf<D> {
         ensures found { IfOk result (λ k. IfSome (rows_at D.Disk.tells (D.files self.old.disks) path.now)
             (λ there. Some k.rows ≡ Some there)) }
         ensures fresh { IfOk result (λ k. D.Disk.faults k.disk ≡ 0) }
-        ensures opened { OnOk result (D.has_opened self.new.disks path.now) }
-        ensures begins { IsTrue D.Disk.tells
-            → IfOk result (λ k. (opened_at D.Disk.moment self.new ≡ D.Disk.moment k.disk) × (k.doubted ≡ [])) }
+        ensures opened { IfOk result (λ k. D.has_opened self.new.disks path.now) }
+        ensures begins { IfOk result (λ k. IsTrue D.Disk.tells
+            → (opened_at D.Disk.moment self.new ≡ D.Disk.moment k.disk) × (k.doubted ≡ [])) }
         ensures same { StaysOpened D.Disk.tells path.now result (rows_at D.Disk.tells (D.files self.old.disks))
             (rows_at D.Disk.tells (D.files self.new.disks)) }
         ensures cause { HasCause (D.faults self.old.disks + self.old.refused)
@@ -145,7 +147,8 @@ impl<D: Disks> Shelf for JournalShelf<D> {
             ⊎ (Rises self.old.refused self.new.refused
             × (IsTrue D.Disk.tells → IsNoJournal (D.files self.old.disks path.now))) }
 
-        // Where it fails each file is as it was, unless it is told that a part of a new journal was left in an empty one.
+        // Where it fails each file is as it was, unless it is told that a part of a new journal was left in an empty
+        // one.
         ensures spared { IsTrue D.Disk.tells → result ≡ Err Failed → IsFalse self.new.left_half_made
             → D.files self.new.disks ≡ D.files self.old.disks }
         ensures half_made { IsTrue self.new.left_half_made → (result ≡ Err Failed)
