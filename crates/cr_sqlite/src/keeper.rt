@@ -292,9 +292,15 @@ impl<S: Alter> Keeper for SqliteKeeper<S> {
 
     ghost faults = { λ k. k };
 
-    ghost tells_stops = { false };
+    ghost kind = { λ _. [] };
 
-    ghost rows_told = { λ told keeper. untold told };
+    ghost tells_stops = { λ _. false };
+
+    ghost tells_alike = { λ keeper other same i. false };
+
+    ghost rows_alike = { λ keeper other same i. false };
+
+    ghost rows_told = { λ keeper told. untold told };
 
     ghost tried = { λ _. [] };
 

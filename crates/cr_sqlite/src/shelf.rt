@@ -1,5 +1,5 @@
 //! A shelf of files.
-ghost use Rattle.std.specs.Prelude.{◌≡◌, ℕ, None, ⊤, IfOk};
+ghost use Rattle.std.specs.Prelude.{◌≡◌, ℕ, None, false, ⊤, IfOk};
 ghost use Rattle.cr_ports.specs.Count.{Gains};
 ghost use Rattle.cr_ports.specs.Keeping.{HasCause};
 ghost use Rattle.cr_sqlite.specs.Telling.{without_reason};
@@ -184,11 +184,13 @@ impl Shelf for SqliteShelf {
 
     ghost rows = { λ _ _. None };
 
-    ghost has_opened = { λ _ _. ⊤ };
+    ghost tells_stops = { λ _ _. false };
+
+    ghost has_opened = { λ _ _ _. ⊤ };
 
     ghost faults = { λ s. s };
 
-    ghost opened_at = { λ _. 0 };
+    ghost opened_at = { λ _ _. 0 };
 
     ghost left = { λ _ _ _. ⊥ };
 
