@@ -1,5 +1,6 @@
 -- What a stop may leave of a book, as its history grows.
-use Rattle.std.proofs.Common.{ℕ, ◌≡◌, ◌⊎◌, inl, inr, ⊎_elim, List, [], ◌∷◌, ◌++◌, refl, sym, ap, subst, ◌∙◌, arith}
+use Rattle.std.proofs.Common.{ℕ, ◌≤◌, ◌<◌, ◌+◌, ◌-◌, ◌^◌, ◌≡◌, ◌⊎◌, inl, inr, ⊎_elim, List, [], ◌∷◌, ◌++◌, refl, sym}
+use Rattle.std.proofs.Common.{ap, subst, ◌∙◌, arith}
 use Rattle.std.proofs.Common.{Bool, Option, Some, None, Result, Ok, Err, IfSome, IsTrue, is_some}
 use mathlib.Core.List.{IsPrefix}
 use Rattle.cr_base.specs.declared.row.Row.{Row}
@@ -10,10 +11,11 @@ use Rattle.cr_base.specs.Tables.{Tables}
 use Rattle.cr_history.proofs.TableAgreement.{rows_of-append}
 use Rattle.cr_lock.proofs.Prefixes.{prefix_self, prefix_trans}
 use Rattle.cr_policy.specs.Legal.{Legal}
+use Rattle.cr_ports.specs.Count.{Rises}
 use Rattle.cr_ports.specs.Stopping.{IsAmong, LeavesOnly, OpensTo, OpensToTold, TriedAfter}
 use Rattle.cr_ports.proofs.StopLaws.{started, weaken}
 use Rattle.cr_book.specs.Sound.{IsKept, IsSound}
-use Rattle.cr_book.specs.Stopping.{Adding, AddsOne, KeepsGroups, OpensAmid, StopsWell}
+use Rattle.cr_book.specs.Stopping.{Adding, AddsOne, CountsTried, KeepsGroups, OpensAmid, StopsWell}
 
 -- where the rows are told, they are the history's
 told_opens : (opens : List ℕ → List Row → Type 0) (told : Option (List Row)) (log : History) (tried : List (List Row))
@@ -201,71 +203,82 @@ module _ {K : Type 0} (rows : K → Option (List Row)) (tried : K → List (List
       told_opens opens (rows keeper) log (tried keeper) image there kept (between image left)
 
   -- a call that came to nothing before the keeper was asked
-  pub added_nothing : {T E : Type 0} (error : E) (keeper : K) (log group : History) (opened : K)
+  pub added_nothing : (tells : K → Bool) {T E : Type 0} (error : E) (keeper : K) (log group : History) (opened : K)
       → StopsWell rows tried moment left_since opens opened keeper log
-      → Adding rows tried moment left_since opens {T = T} (Err error) log group keeper keeper
-  added_nothing error keeper log group opened well =
-      record { tried_after = inr (inr refl); stops = nothing_done keeper log group well.between }
+      → Adding rows tried moment left_since opens tells {T = T} (Err error) log group keeper keeper
+  added_nothing tells error keeper log group opened well =
+      record { telling = refl; tried_after = inr (inr refl); stops = nothing_done keeper log group well.between }
 
   -- what was said of one call is so of another that ended alike
-  pub refused_adding : {T U E F : Type 0} (result : Result U F) (error : F) (told : E) (log group : History)
+  pub refused_adding : (tells : K → Bool) {T U E F : Type 0} (result : Result U F) (error : F) (told : E)
+      (log group : History)
       (old new : K) → result ≡ Err error
-      → Adding rows tried moment left_since opens result log group old new
-      → Adding rows tried moment left_since opens {T = T} (Err told) log group old new
-  refused_adding {T} {U} {E} {F} result error told log group old new is a = record {
+      → Adding rows tried moment left_since opens tells result log group old new
+      → Adding rows tried moment left_since opens tells {T = T} (Err told) log group old new
+  refused_adding tells {T} {U} {E} {F} result error told log group old new is a = record {
+    telling = a.telling;
     tried_after = subst (λ (r : Result U F). TriedAfter r (tried old) (rows_of group) (tried new)) is a.tried_after;
     stops = a.stops;
   }
 
-  pub kept_adding : {T U E F : Type 0} (result : Result U F) (done : U) (receipt : T) (log group : History)
+  pub kept_adding : (tells : K → Bool) {T U E F : Type 0} (result : Result U F) (done : U) (receipt : T)
+      (log group : History)
       (old new : K) → result ≡ Ok done
-      → Adding rows tried moment left_since opens result log group old new
-      → Adding rows tried moment left_since opens {E = E} (Ok receipt) log group old new
-  kept_adding {T} {U} {E} {F} result done receipt log group old new is a = record {
+      → Adding rows tried moment left_since opens tells result log group old new
+      → Adding rows tried moment left_since opens tells {E = E} (Ok receipt) log group old new
+  kept_adding tells {T} {U} {E} {F} result done receipt log group old new is a = record {
+    telling = a.telling;
     tried_after = subst (λ (r : Result U F). TriedAfter r (tried old) (rows_of group) (tried new)) is a.tried_after;
     stops = a.stops;
   }
 
   -- the book around a call of the keeper, which was to keep a group
-  module _ (tells : Bool) (there : IsTrue tells → (keeper : K) → IsTrue (is_some (rows keeper))) (opened old new : K)
+  module _ (tells : K → Bool) (there : (keeper : K) → IsTrue (tells keeper) → IsTrue (is_some (rows keeper)))
+      (opened old new : K) (telling : tells new ≡ tells old)
       (log group : History)
       (added : List Row) (t : Tables) (is : added ≡ rows_of group)
-      (before : IsSound rows log t old × (IsTrue tells → StopsWell rows tried moment left_since opens opened old log))
+      (before : IsSound rows log t old
+      × (IsTrue (tells old) → StopsWell rows tried moment left_since opens opened old log))
       (adds : AddsOne log group)
-      (stops : IsTrue tells → LeavesOnly moment left_since old new (OpensToTold opens (rows old) (added ∷ tried old)))
-      (between : IsTrue tells → (image : List ℕ) → left_since new (moment new) image → OpensToTold opens (rows new)
+      (stops : IsTrue (tells old) → LeavesOnly moment left_since old new
+      (OpensToTold opens (rows old) (added ∷ tried old)))
+      (between : IsTrue (tells old) → (image : List ℕ) → left_since new (moment new) image →
+      OpensToTold opens (rows new)
       (tried new) image) where
-    stops-now : IsTrue tells → LeavesOnly moment left_since old new
+    stops-now : IsTrue (tells old) → LeavesOnly moment left_since old new
         (OpensTo opens (rows_of log) (rows_of group ∷ tried old))
-    stops-now told = stops_of old new log group added (there told old) before.0.kept is (stops told)
+    stops-now told = stops_of old new log group added (there old told) before.0.kept is (stops told)
 
     -- it was kept
     pub kept_step : (items : History) (now : Tables) → IsSound rows items now new → items ≡ log ++ group
-        → (IsTrue tells → tried new ≡ [])
-        → IsSound rows items now new × (IsTrue tells → StopsWell rows tried moment left_since opens opened new items)
+        → (IsTrue (tells old) → tried new ≡ [])
+        → IsSound rows items now new
+        × (IsTrue (tells new) → StopsWell rows tried moment left_since opens opened new items)
     kept_step items now sound same none = (
       sound,
-      λ told.
+      λ telling-now. let told = sym telling ∙ telling-now in
           subst (λ (h : History). StopsWell rows tried moment left_since opens opened new h) (sym same)
           (kept_well opened old new log group before.0.legal adds (stops-now told) (before.1 told) (none told)
-          (between_of new (log ++ group) (there told new) (subst (λ (h : History). IsKept rows new h) same sound.kept)
+          (between_of new (log ++ group) (there new telling-now) (subst (λ (h : History). IsKept rows new h) same
+          sound.kept)
           (between told))),
     )
 
-    pub kept_adds : {E : Type 0} → (IsTrue tells → tried new ≡ []) → IsTrue tells
-        → Adding rows tried moment left_since opens {T = Unit {0}} {E = E} (Ok (tt {0})) log group old new
-    kept_adds none told = record { tried_after = none told; stops = stops-now told }
+    pub kept_adds : {E : Type 0} → (IsTrue (tells old) → tried new ≡ []) → IsTrue (tells old)
+        → Adding rows tried moment left_since opens tells {T = Unit {0}} {E = E} (Ok (tt {0})) log group old new
+    kept_adds none told = record { telling = telling; tried_after = none told; stops = stops-now told }
 
     -- it wasn't
     pub refused_step : (items : History) (now : Tables) → items ≡ log → now ≡ t → rows new ≡ rows old
-        → (IsTrue tells → (tried new ≡ []) ⊎ ((tried new ≡ added ∷ []) ⊎ (tried new ≡ tried old)))
-        → IsSound rows items now new × (IsTrue tells → StopsWell rows tried moment left_since opens opened new items)
+        → (IsTrue (tells old) → (tried new ≡ []) ⊎ ((tried new ≡ added ∷ []) ⊎ (tried new ≡ tried old)))
+        → IsSound rows items now new
+        × (IsTrue (tells new) → StopsWell rows tried moment left_since opens opened new items)
     refused_step items now same as_was still after = (
       sound,
-      λ told.
+      λ telling-now. let told = sym telling ∙ telling-now in
           subst (λ (h : History). StopsWell rows tried moment left_since opens opened new h) (sym same)
           (refused_well opened old new log group before.0.legal adds (stops-now told) (before.1 told) (after_rows told)
-          (between_of new log (there told new) kept (between told))),
+          (between_of new log (there new telling-now) kept (between told))),
     )
       where
         kept : IsKept rows new log
@@ -275,22 +288,26 @@ module _ {K : Type 0} (rows : K → Option (List Row)) (tried : K → List (List
         sound = subst (λ (h : History). IsSound rows h now new) (sym same)
             (record { legal = before.0.legal; same = as_was ∙ before.0.same; kept = kept })
 
-        after_rows : IsTrue tells → (tried new ≡ []) ⊎ ((tried new ≡ rows_of group ∷ []) ⊎ (tried new ≡ tried old))
+        after_rows : IsTrue (tells old) → (tried new ≡ []) ⊎ ((tried new ≡ rows_of group ∷ [])
+            ⊎ (tried new ≡ tried old))
         after_rows told =
             subst (λ (r : List Row). (tried new ≡ []) ⊎ ((tried new ≡ r ∷ []) ⊎ (tried new ≡ tried old))) is
             (after told)
 
     pub refused_adds : {E : Type 0} (error : E)
-        → (IsTrue tells → (tried new ≡ []) ⊎ ((tried new ≡ added ∷ []) ⊎ (tried new ≡ tried old))) → IsTrue tells
-        → Adding rows tried moment left_since opens {T = Unit {0}} (Err error) log group old new
+        → (IsTrue (tells old) → (tried new ≡ []) ⊎ ((tried new ≡ added ∷ []) ⊎ (tried new ≡ tried old)))
+        → IsTrue (tells old)
+        → Adding rows tried moment left_since opens tells {T = Unit {0}} (Err error) log group old new
     refused_adds error after told = record {
+      telling = telling;
       tried_after =
           subst (λ (r : List Row). (tried new ≡ []) ⊎ ((tried new ≡ r ∷ []) ⊎ (tried new ≡ tried old))) is (after told);
       stops = stops-now told;
     }
 
   -- a command or a bulk whose group was asked to be kept: what it draws is that group
-  module _ {F : Type 0} (judgement : Result Drawn F) (found drawn : Drawn) (is : judgement ≡ Ok found)
+  module _ (tells : K → Bool) {F : Type 0} (judgement : Result Drawn F) (found drawn : Drawn)
+      (is : judgement ≡ Ok found)
       (told : judgement ≡ Ok drawn)
       (items : History) (same : items ≡ found.group) (log : History) (old new : K) where
     drawn-group : items ≡ drawn.group
@@ -301,17 +318,55 @@ module _ {K : Type 0} (rows : K → Option (List Row)) (tried : K → List (List
         one e = cc (e)
 
     pub kept_drawn : {T U E G : Type 0} (result : Result U G) (done : U) (receipt : T) → result ≡ Ok done
-        → Adding rows tried moment left_since opens result log items old new
-        → Adding rows tried moment left_since opens {E = E} (Ok receipt) log drawn.group old new
+        → Adding rows tried moment left_since opens tells result log items old new
+        → Adding rows tried moment left_since opens tells {E = E} (Ok receipt) log drawn.group old new
     kept_drawn {T} {U} {E} {G} result done receipt so adding =
-        subst (λ (g : History). Adding rows tried moment left_since opens {E = E} (Ok receipt) log g old new)
+        subst (λ (g : History). Adding rows tried moment left_since opens tells {E = E} (Ok receipt) log g old new)
         drawn-group
-        (kept_adding result done receipt log items old new so adding)
+        (kept_adding tells result done receipt log items old new so adding)
 
     pub refused_drawn : {T U E G : Type 0} (result : Result U G) (error : G) (refusal : E) → result ≡ Err error
-        → Adding rows tried moment left_since opens result log items old new
-        → Adding rows tried moment left_since opens {T = T} (Err refusal) log drawn.group old new
+        → Adding rows tried moment left_since opens tells result log items old new
+        → Adding rows tried moment left_since opens tells {T = T} (Err refusal) log drawn.group old new
     refused_drawn {T} {U} {E} {G} result error refusal so adding =
-        subst (λ (g : History). Adding rows tried moment left_since opens {T = T} (Err refusal) log g old new)
+        subst (λ (g : History). Adding rows tried moment left_since opens tells {T = T} (Err refusal) log g old new)
         drawn-group
-        (refused_adding result error refusal log items old new so adding)
+        (refused_adding tells result error refusal log items old new so adding)
+
+-- what is still as it was behind one call, and behind another
+pub still-on : {K : Type 0} (tells : K → Bool) (first mid last : K) → (IsTrue (tells first) → mid ≡ first)
+    → (IsTrue (tells mid) → last ≡ mid) → IsTrue (tells first) → last ≡ first
+still-on {K} tells first mid last before then told =
+    then (subst (λ (k : K). IsTrue (tells k)) (sym (before told)) told) ∙ before told
+
+-- ---- what was tried in vain was counted
+
+module _ {K : Type 0} (faults : K → ℕ) (tried : K → List (List Row)) where
+  -- of a keeper that is as it was when the book was opened
+  pub counted_opened : (opened now : K) → now ≡ opened → CountsTried faults tried opened now
+  counted_opened opened now same = subst (λ (k : K). CountsTried faults tried opened k) (sym same)
+      (record { later = omega arith; counted = λ none. inl none })
+
+  module _ (opened old new : K) (so_far : CountsTried faults tried opened old) where
+    -- an append was kept
+    pub counted_kept : faults old ≤ faults new → tried new ≡ [] → CountsTried faults tried opened new
+    counted_kept later none = record {
+      later = (let before = so_far.later in omega (arith, before, later));
+      counted = λ first. inl none;
+    }
+
+    -- an append failed
+    pub counted_failed : faults old ≤ faults new → Rises (faults old) (faults new)
+        → CountsTried faults tried opened new
+    counted_failed later rose = record {
+      later = (let before = so_far.later in omega (arith, before, later));
+      counted = λ first. inr (λ below. let before = so_far.later in let more = rose below in omega (
+        arith,
+        before,
+        more,
+      ));
+    }
+
+    -- nothing was tried
+    pub counted_still : new ≡ old → CountsTried faults tried opened new
+    counted_still same = subst (λ (k : K). CountsTried faults tried opened k) (sym same) so_far

@@ -5,6 +5,7 @@ use Rattle.cr_base.specs.declared.row.Row.{Row}
 use Rattle.cr_base.specs.History.{History}
 use Rattle.cr_base.specs.Rows.{rows_of}
 use Rattle.cr_policy.specs.Legal.{IsMoveAllowed, Legal, Move, moved}
+use Rattle.cr_ports.specs.Count.{Rises}
 use Rattle.cr_ports.specs.Stopping.{IsAmong, LeavesOnly, OpensTo, TriedAfter}
 
 -- one command or one bulk, which is allowed behind this history, adds this group to it
@@ -44,10 +45,18 @@ module _ {K : Type 0} (rows : K → Option (List Row)) (tried : K → List (List
 
   -- While a group was being put behind the log, by a call that ended so: a stop leaves the rows of the log, or these
   -- and then whole one group, this one or one that had been tried since the last that was kept.
-  pub record Adding {T E : Type 0} (result : Result T E) (log group : History) (old new : K) : Type 0 where
+  pub record Adding (tells : K → Bool) {T E : Type 0} (result : Result T E) (log group : History) (old new : K)
+      : Type 0 where
+    -- the keeper tells as it did before what a stop may leave
+    pub telling : tells new ≡ tells old
     pub tried_after : TriedAfter result (tried old) (rows_of group) (tried new)
     pub stops : LeavesOnly moment left_since old new (OpensTo opens (rows_of log) (rows_of group ∷ tried old))
 
   -- what was kept since the opening, where the keeper tells what a stop may leave
-  abbrev pub KeepsTold : Bool → K → K → History → Type 0
-  KeepsTold tells opened now log = IsTrue tells → tried opened ≡ [] → KeepsGroups opened now log
+  abbrev pub KeepsTold : (K → Bool) → K → K → History → Type 0
+  KeepsTold tells opened now log = IsTrue (tells now) → tried opened ≡ [] → KeepsGroups opened now log
+
+-- A group was tried in vain since the opening only where the keeper's count of faults rose.
+pub record CountsTried {K : Type 0} (faults : K → ℕ) (tried : K → List (List Row)) (opened now : K) : Type 0 where
+  pub later : faults opened ≤ faults now
+  pub counted : tried opened ≡ [] → (tried now ≡ []) ⊎ Rises (faults opened) (faults now)

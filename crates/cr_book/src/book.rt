@@ -24,7 +24,7 @@ ghost use Rattle.cr_view.specs.Replies.{AnswersAsDue, AnswersOrPlans};
 ghost use Rattle.cr_book.specs.Kinds.{count_of_kind};
 ghost use Rattle.cr_book.specs.Opening.{Opens, IsCounted};
 ghost use Rattle.cr_book.specs.Sound.{IsKept, Accepts, AcceptsBulk, Acts};
-ghost use Rattle.cr_book.specs.Stopping.{Adding, AddsOne, KeepsTold};
+ghost use Rattle.cr_book.specs.Stopping.{Adding, AddsOne, CountsTried, KeepsTold};
 
 use crate::earlier::{Earlier, look_up};
 use crate::judging::judge_bulk;
@@ -66,12 +66,14 @@ impl<K: Keeper> Model for Book<K> {
     ghost view = { λ b. record { log = b.log.entries; keeper = b.keeper; opened = b.opened.value } };
 
     ghost use Rattle.cr_book.specs.Sound.{IsSound};
-    ghost use Rattle.cr_book.specs.Stopping.{StopsWell};
-    ghost use Rattle.std.specs.Prelude.{IsTrue};
+    ghost use Rattle.cr_book.specs.Stopping.{CountsTried, StopsWell};
+    ghost use Rattle.std.specs.Prelude.{◌≡◌, IsTrue};
 
     ghost invariant = { λ b. IsSound K.rows b.log.entries b.live.tables b.keeper
-        × (IsTrue K.tells_stops → StopsWell K.rows K.tried K.moment K.left_since K.opens b.opened.value b.keeper
-        b.log.entries) };
+        × (IsTrue (K.tells_stops b.keeper) → StopsWell K.rows K.tried K.moment K.left_since K.opens b.opened.value
+        b.keeper b.log.entries)
+        × (K.kind b.keeper ≡ K.kind b.opened.value)
+        × (IsTrue (K.tells_stops b.keeper) → CountsTried K.faults K.tried b.opened.value b.keeper) };
 }
 
 /// Why a command or a bulk was not taken. `B` tells what is broken: a `Rule` of a command, a `Broken` of a bulk.
@@ -104,14 +106,15 @@ impl<K: Keeper> Book<K> {
         ensures same { IfOk result (λ book. K.rows book.keeper ≡ K.rows keeper) }
         ensures steady { IfOk result (λ book. K.faults book.keeper ≡ K.faults keeper) }
         ensures opened { IfOk result (λ book. book.opened ≡ keeper) }
-        ensures still { IsTrue K.tells_stops → IfOk result (λ book. book.keeper ≡ keeper) }
+        ensures still { IsTrue (K.tells_stops keeper) → IfOk result (λ book. book.keeper ≡ keeper) }
 
         // What a stop may leave before anything is added, where the keeper tells it.
-        ensures between { IsTrue K.tells_stops → IfOk result (λ book. (image : List ℕ)
+        ensures between { IsTrue (K.tells_stops keeper) → IfOk result (λ book. (image : List ℕ)
             → K.left_since book.keeper (K.moment book.keeper) image
             → OpensTo K.opens (rows_of book.log) (K.tried book.keeper) image) }
         ensures given_back { IfErr result (λ e. K.rows e.1 ≡ K.rows keeper) }
-        ensures still_back { IsTrue K.tells_stops → IfErr result (λ e. e.1 ≡ keeper) }
+        ensures still_back { IsTrue (K.tells_stops keeper) → IfErr result (λ e. e.1 ≡ keeper) }
+        ensures alike_back { IfErr result (λ e. K.kind e.1 ≡ K.kind keeper) }
         ensures cause { IfErr result (λ e. IsCounted {T = Unit {0}} (K.faults keeper) (K.faults e.1) (Err e.0)) }
     {
         let opened = Snapshot::of(&keeper);
@@ -136,8 +139,10 @@ impl<K: Keeper> Book<K> {
     pub fn close(self) -> K
         ensures same { result ≡ self.keeper }
         ensures kept { IsKept K.rows result self.log }
+        ensures alike { K.kind result ≡ K.kind self.opened }
         ensures stops { KeepsTold K.rows K.tried K.moment K.left_since K.opens K.tells_stops self.opened result
             self.log }
+        ensures counted { IsTrue (K.tells_stops result) → CountsTried K.faults K.tried self.opened result }
         ensures legal { Legal self.log }
     {
         let Book {
@@ -208,14 +213,14 @@ impl<K: Keeper> Book<K> {
         ensures count { K.faults self.old.keeper ≤ K.faults self.new.keeper }
         ensures legal { Legal self.new.log }
         ensures opened { self.new.opened ≡ self.old.opened }
-        ensures untried { IsTrue K.tells_stops → result ≡ Err BookError.OutOfMemory
+        ensures untried { IsTrue (K.tells_stops self.old.keeper) → result ≡ Err BookError.OutOfMemory
             → self.new.keeper ≡ self.old.keeper }
 
         // What a stop may leave while something is added.
-        ensures stops { IsTrue K.tells_stops → (drawn : Drawn)
+        ensures stops { IsTrue (K.tells_stops self.old.keeper) → (drawn : Drawn)
             → drawn_by (decide (view caller.now self.old.log) (call_of caller.now at key command)) ≡ Some drawn
-            → Adding K.rows K.tried K.moment K.left_since K.opens result self.old.log drawn.group self.old.keeper
-            self.new.keeper }
+            → Adding K.rows K.tried K.moment K.left_since K.opens K.tells_stops result self.old.log drawn.group
+            self.old.keeper self.new.keeper }
     {
         match look_up(&self.log, &self.live, caller, &key, false) {
             Earlier::Nothing => self.judge_command(Call {
@@ -255,11 +260,12 @@ impl<K: Keeper> Book<K> {
         ensures count { K.faults self.old.keeper ≤ K.faults self.new.keeper }
         ensures legal { Legal self.new.log }
         ensures opened { self.new.opened ≡ self.old.opened }
-        ensures untried { IsTrue K.tells_stops → result ≡ Err BookError.OutOfMemory
+        ensures untried { IsTrue (K.tells_stops self.old.keeper) → result ≡ Err BookError.OutOfMemory
             → self.new.keeper ≡ self.old.keeper }
-        ensures stops { IsTrue K.tells_stops → (drawn : Drawn) → judge (view call.caller self.old.log) call ≡ Ok drawn
-            → Adding K.rows K.tried K.moment K.left_since K.opens result self.old.log drawn.group self.old.keeper
-            self.new.keeper }
+        ensures stops { IsTrue (K.tells_stops self.old.keeper) → (drawn : Drawn)
+            → judge (view call.caller self.old.log) call ≡ Ok drawn
+            → Adding K.rows K.tried K.moment K.left_since K.opens K.tells_stops result self.old.log drawn.group
+            self.old.keeper self.new.keeper }
     {
         let effect = match judge(&self.live, call) {
             Ok(effect) => effect,
@@ -332,14 +338,14 @@ impl<K: Keeper> Book<K> {
         ensures count { K.faults self.old.keeper ≤ K.faults self.new.keeper }
         ensures legal { Legal self.new.log }
         ensures opened { self.new.opened ≡ self.old.opened }
-        ensures untried { IsTrue K.tells_stops → result ≡ Err BookError.OutOfMemory
+        ensures untried { IsTrue (K.tells_stops self.old.keeper) → result ≡ Err BookError.OutOfMemory
             → self.new.keeper ≡ self.old.keeper }
 
         // What a stop may leave while something is added.
-        ensures stops { IsTrue K.tells_stops → (drawn : Drawn)
+        ensures stops { IsTrue (K.tells_stops self.old.keeper) → (drawn : Drawn)
             → drawn_by (decide_bulk (view (Some caller) self.old.log) (bulk_by caller at key rows)) ≡ Some drawn
-            → Adding K.rows K.tried K.moment K.left_since K.opens result self.old.log drawn.group self.old.keeper
-            self.new.keeper }
+            → Adding K.rows K.tried K.moment K.left_since K.opens K.tells_stops result self.old.log drawn.group
+            self.old.keeper self.new.keeper }
     {
         let stamp = Stamp {
             maker: caller,
@@ -383,12 +389,12 @@ impl<K: Keeper> Book<K> {
         ensures count { K.faults self.old.keeper ≤ K.faults self.new.keeper }
         ensures legal { Legal self.new.log }
         ensures opened { self.new.opened ≡ self.old.opened }
-        ensures untried { IsTrue K.tells_stops → result ≡ Err BookError.OutOfMemory
+        ensures untried { IsTrue (K.tells_stops self.old.keeper) → result ≡ Err BookError.OutOfMemory
             → self.new.keeper ≡ self.old.keeper }
-        ensures stops { IsTrue K.tells_stops → (drawn : Drawn)
+        ensures stops { IsTrue (K.tells_stops self.old.keeper) → (drawn : Drawn)
             → judge_bulk (view (Some stamp.maker) self.old.log) (record { stamp = stamp; rows = rows }) ≡ Ok drawn
-            → Adding K.rows K.tried K.moment K.left_since K.opens result self.old.log drawn.group self.old.keeper
-            self.new.keeper }
+            → Adding K.rows K.tried K.moment K.left_since K.opens K.tells_stops result self.old.log drawn.group
+            self.old.keeper self.new.keeper }
     {
         let group = match judge_bulk(&self.live, &stamp, rows) {
             Ok(group) => group,
@@ -419,10 +425,10 @@ impl<K: Keeper> Book<K> {
         ensures count { K.faults self.old.keeper ≤ K.faults self.new.keeper }
         ensures legal { Legal self.new.log }
         ensures opened { self.new.opened ≡ self.old.opened }
-        ensures untried { IsTrue K.tells_stops → result ≡ Err BookError.OutOfMemory
+        ensures untried { IsTrue (K.tells_stops self.old.keeper) → result ≡ Err BookError.OutOfMemory
             → self.new.keeper ≡ self.old.keeper }
-        ensures stops { IsTrue K.tells_stops → Adding K.rows K.tried K.moment K.left_since K.opens result self.old.log
-            group.items self.old.keeper self.new.keeper }
+        ensures stops { IsTrue (K.tells_stops self.old.keeper) → Adding K.rows K.tried K.moment K.left_since K.opens
+            K.tells_stops result self.old.log group.items self.old.keeper self.new.keeper }
     {
         let Ok(rows) = rows_of(self.alloc, &group) else {
             return Err(BookError::OutOfMemory);

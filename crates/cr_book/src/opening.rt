@@ -59,7 +59,8 @@ fn read_rows<K: Keeper>(alloc: Global, keeper: &mut K, count: u64) -> Result<Rea
         (λ read. IfSome (K.rows keeper.old) (λ rows. rows_of read.log ++ read.pending ≡ rows)) }
     ensures bad { IfErr result (λ e. IfSome (K.rows keeper.old) (λ rows. Explains rows e)) }
     ensures same { K.rows keeper.new ≡ K.rows keeper.old }
-    ensures still { IsTrue K.tells_stops → keeper.new ≡ keeper.old }
+    ensures alike { K.kind keeper.new ≡ K.kind keeper.old }
+    ensures still { IsTrue (K.tells_stops keeper.old) → keeper.new ≡ keeper.old }
     ensures cause { IsCounted (K.faults keeper.old) (K.faults keeper.new) result }
 {
     let mut reading = Reading::new(alloc);
@@ -82,8 +83,9 @@ pub(crate) fn read_all<K: Keeper>(alloc: Global, keeper: &mut K) -> Result<(Log,
     ensures spelled { IfOk result (λ read. IfSome (K.rows keeper.old) (λ rows. rows_of read.0.entries ≡ rows)) }
     ensures bad { IfErr result (λ e. IfSome (K.rows keeper.old) (λ rows. Explains rows e)) }
     ensures same { K.rows keeper.new ≡ K.rows keeper.old }
-    ensures still { IsTrue K.tells_stops → keeper.new ≡ keeper.old }
-    ensures between { IsTrue K.tells_stops → IfOk result (λ read. (image : List ℕ)
+    ensures alike { K.kind keeper.new ≡ K.kind keeper.old }
+    ensures still { IsTrue (K.tells_stops keeper.old) → keeper.new ≡ keeper.old }
+    ensures between { IsTrue (K.tells_stops keeper.old) → IfOk result (λ read. (image : List ℕ)
         → K.left_since keeper.old (K.moment keeper.old) image
         → OpensToTold K.opens (K.rows keeper.old) (K.tried keeper.old) image) }
     ensures cause { IsCounted (K.faults keeper.old) (K.faults keeper.new) result }

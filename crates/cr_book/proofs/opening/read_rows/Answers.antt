@@ -1,7 +1,18 @@
 use Rattle.std.proofs.Common.{◌++◌, ◌∙◌, refl, arith, Ok}
 use Rattle.cr_base.specs.Rows.{rows_of}
 use Rattle.cr_book.proofs.StoreLaws.{untold-explains, untold-counted, answered-steady, read-more, all-read, bad-row}
+use Rattle.cr_book.proofs.StopLaws.{still-on}
 use Rattle.cr_book.proofs.opening.read_rows.Goals as goal
+
+pub returns-in-Err-clause-still : goal.returns-in-Err-clause-still
+returns-in-Err-clause-still g c =
+    still-on g.K.Keeper.tells_stops c.args.keeper.now c.loop-i.keeper c.row.new.self c.loop-i.invariant.still
+    c.in-Err.ensures.still
+
+pub returns-in-Err-read-clause-still : goal.returns-in-Err-read-clause-still
+returns-in-Err-read-clause-still g c =
+    still-on g.K.Keeper.tells_stops c.args.keeper.now c.loop-i.keeper c.row.new.self c.loop-i.invariant.still
+    c.in-Ok.ensures.still
 
 pub returns-in-Err-clause-bad : goal.returns-in-Err-clause-bad
 returns-in-Err-clause-bad g c =
@@ -23,7 +34,10 @@ pub loop-i-preserved : goal.loop-i-preserved
 loop-i-preserved g c =
     record {
       same = c.in-Ok.ensures.same ∙ c.loop-i.invariant.same;
-      still = λ told. c.in-Ok.ensures.still told ∙ c.loop-i.invariant.still told;
+      alike = c.in-Ok.ensures.alike ∙ c.loop-i.invariant.alike;
+      still = λ told. still-on g.K.Keeper.tells_stops c.args.keeper.now c.loop-i.keeper c.row.new.self
+          c.loop-i.invariant.still
+          c.in-Ok.ensures.still told;
       steady = answered-steady (g.K.Keeper.faults c.loop-i.keeper) (g.K.Keeper.faults c.row.new.self) (Ok c.in-Ok.row)
           c.in-Ok.row c.in-Ok.ensures.cause refl ∙ c.loop-i.invariant.steady;
       read = read-more (g.K.Keeper.rows c.args.keeper.now) (g.K.Keeper.rows c.loop-i.keeper) c.loop-i.i c.in-Ok.row

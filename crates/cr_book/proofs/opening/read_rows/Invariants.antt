@@ -7,7 +7,8 @@ invariant-loop-i g l =
     let rows = g.K.Keeper.rows in
     record {
       same : rows l.keeper ≡ rows l.fn.keeper;
-      still : IsTrue g.K.Keeper.tells_stops → l.keeper ≡ l.fn.keeper;
+      alike : g.K.Keeper.kind l.keeper ≡ g.K.Keeper.kind l.fn.keeper;
+      still : IsTrue (g.K.Keeper.tells_stops l.fn.keeper) → l.keeper ≡ l.fn.keeper;
       steady : g.K.Keeper.faults l.keeper ≡ g.K.Keeper.faults l.fn.keeper;
       read : IfSome (rows l.fn.keeper) (λ told. rows_of l.reading.log ++ l.reading.pending ≡ take l.i told);
     }

@@ -1,4 +1,4 @@
-use Rattle.std.proofs.Common.{◌≡◌, ◌∙◌, ◌++◌, List, Ok, Err, ap, sym, subst}
+use Rattle.std.proofs.Common.{◌≡◌, ◌∙◌, ◌++◌, List, IsTrue, Ok, Err, ap, sym, subst}
 use Rattle.cr_base.specs.declared.row.Row.{Row}
 use Rattle.cr_base.specs.History.{History}
 use Rattle.cr_base.specs.Rows.{rows_of}
@@ -11,6 +11,7 @@ use Rattle.cr_book.specs.Sound.{IsSound}
 use Rattle.cr_book.specs.Seen.{SeenBook}
 use Rattle.cr_book.specs.Stopping.{Adding, AddsOne}
 use Rattle.cr_book.proofs.BookLaws.{sound-step}
+use Rattle.cr_book.proofs.StopLaws.{counted_failed, counted_kept, counted_still}
 use Rattle.cr_book.proofs.StopLaws.{kept_adds, kept_step, refused_adds, refused_step}
 use Rattle.cr_book.proofs.book.Book.keep.Given.{Over}
 use Rattle.cr_book.proofs.book.Book.keep.Goals as goal
@@ -53,86 +54,145 @@ invariant_of-self-2 g c =
     let K = g.K.Keeper in
     let inside = c.self.inside in
     let same = ap (λ (v : SeenBook g.row.K.Denot). v.log) c.self.view_is in
-    kept_step K.rows K.tried K.moment K.left_since K.opens K.tells_stops K.rows_told inside.opened.value inside.keeper
-    c.append_all.new.self
-    inside.log.entries c.args.group.items c.deref-5.result.now inside.live.tables (added-rows g c) c.self.invariant
+    let alike = K.tells_alike c.append_all.new.self inside.keeper c.append_all.ensures.alike in
+    let both = kept_step K.rows K.tried K.moment K.left_since K.opens K.tells_stops K.rows_told inside.opened.value
+    inside.keeper c.append_all.new.self
+    alike
+    inside.log.entries c.args.group.items c.deref-5.result.now inside.live.tables (added-rows g c) (
+      c.self.invariant.0,
+      c.self.invariant.1,
+    )
     (subst (λ (h : History). AddsOne h c.args.group.items) (sym same) c.requires.adds)
     c.append_all.ensures.stops c.append_all.ensures.between
-    c.append.new.self.entries c.apply_all.new.self.tables (sound g c) (grown g c) c.in-Ok-append_all.ensures.tried
+    c.append.new.self.entries c.apply_all.new.self.tables (sound g c) (grown g c) c.in-Ok-append_all.ensures.tried in (
+      both.0,
+      both.1,
+      c.append_all.ensures.alike ∙ c.self.invariant.2,
+      λ telling. let told = sym alike ∙ telling in
+          counted_kept K.faults K.tried inside.opened.value inside.keeper c.append_all.new.self (c.self.invariant.3
+          told)
+          c.append_all.ensures.cause.later (c.in-Ok-append_all.ensures.tried told),
+    )
 
 pub invariant_of-self-in-Err-Failed : goal.invariant_of-self-in-Err-Failed
 invariant_of-self-in-Err-Failed g c =
     let K = g.K.Keeper in
     let inside = c.self.inside in
     let same = ap (λ (v : SeenBook g.row.K.Denot). v.log) c.self.view_is in
-    refused_step K.rows K.tried K.moment K.left_since K.opens K.tells_stops K.rows_told inside.opened.value
+    let alike = K.tells_alike c.append_all.new.self inside.keeper c.append_all.ensures.alike in
+    let both = refused_step K.rows K.tried K.moment K.left_since K.opens K.tells_stops K.rows_told inside.opened.value
     inside.keeper c.append_all.new.self
+    alike
     inside.log.entries c.args.group.items c.deref-5.result.now inside.live.tables
-    (c.deref-5.ensures.value ∙ c.in-Ok.ensures ∙ ap rows_of c.deref.ensures.value) c.self.invariant
+    (c.deref-5.ensures.value ∙ c.in-Ok.ensures ∙ ap rows_of c.deref.ensures.value) (
+      c.self.invariant.0,
+      c.self.invariant.1,
+    )
     (subst (λ (h : History). AddsOne h c.args.group.items) (sym same) c.requires.adds)
     c.append_all.ensures.stops c.append_all.ensures.between
     c.room-2.new.self.entries c.room.new.self.tables c.room-2.ensures.same c.room.ensures.same
-    c.in-Err-Failed.ensures.refused c.in-Err-Failed.ensures.tried
+    c.in-Err-Failed.ensures.refused c.in-Err-Failed.ensures.tried in (
+      both.0,
+      both.1,
+      c.append_all.ensures.alike ∙ c.self.invariant.2,
+      λ telling. let told = sym alike ∙ telling in
+          counted_failed K.faults K.tried inside.opened.value inside.keeper c.append_all.new.self (c.self.invariant.3
+          told)
+          c.append_all.ensures.cause.later (c.in-Err-Failed.ensures.cause.failed (ap Err c.in-Err-Failed.field-0-is)),
+    )
 
 pub invariant_of-self-in-Err-OutOfMemory : goal.invariant_of-self-in-Err-OutOfMemory
 invariant_of-self-in-Err-OutOfMemory g c =
     let K = g.K.Keeper in
     let inside = c.self.inside in
     let same = ap (λ (v : SeenBook g.row.K.Denot). v.log) c.self.view_is in
-    refused_step K.rows K.tried K.moment K.left_since K.opens K.tells_stops K.rows_told inside.opened.value
+    let alike = K.tells_alike c.append_all.new.self inside.keeper c.append_all.ensures.alike in
+    let both = refused_step K.rows K.tried K.moment K.left_since K.opens K.tells_stops K.rows_told inside.opened.value
     inside.keeper c.append_all.new.self
+    alike
     inside.log.entries c.args.group.items c.deref-5.result.now inside.live.tables
-    (c.deref-5.ensures.value ∙ c.in-Ok.ensures ∙ ap rows_of c.deref.ensures.value) c.self.invariant
+    (c.deref-5.ensures.value ∙ c.in-Ok.ensures ∙ ap rows_of c.deref.ensures.value) (
+      c.self.invariant.0,
+      c.self.invariant.1,
+    )
     (subst (λ (h : History). AddsOne h c.args.group.items) (sym same) c.requires.adds)
     c.append_all.ensures.stops c.append_all.ensures.between
     c.room-2.new.self.entries c.room.new.self.tables c.room-2.ensures.same c.room.ensures.same
-    c.in-Err-OutOfMemory.ensures.refused c.in-Err-OutOfMemory.ensures.tried
+    c.in-Err-OutOfMemory.ensures.refused c.in-Err-OutOfMemory.ensures.tried in (
+      both.0,
+      both.1,
+      c.append_all.ensures.alike ∙ c.self.invariant.2,
+      λ telling. let told = sym alike ∙ telling in
+          counted_still K.faults K.tried inside.opened.value inside.keeper c.append_all.new.self (c.self.invariant.3
+          told)
+          (c.in-Err-OutOfMemory.ensures.untried told (ap Err c.in-Err-OutOfMemory.field-0-is)),
+    )
 
 pub returns-clause-stops : goal.returns-clause-stops
-returns-clause-stops g c = λ told.
+returns-clause-stops g c = λ tells.
     let K = g.K.Keeper in
+    let told = subst (λ (v : SeenBook g.row.K.Denot). IsTrue (K.tells_stops v.keeper)) (sym c.self.view_is) tells in
     let inside = c.self.inside in
     let same = ap (λ (v : SeenBook g.row.K.Denot). v.log) c.self.view_is in
-    subst (λ (v : SeenBook g.row.K.Denot). Adding K.rows K.tried K.moment K.left_since K.opens (Ok (tt {0})) v.log
+    subst (λ (v : SeenBook g.row.K.Denot). Adding K.rows K.tried K.moment K.left_since K.opens K.tells_stops (Ok (tt
+    {0})) v.log
     c.args.group.items v.keeper c.append_all.new.self)
     c.self.view_is
-    (kept_adds K.rows K.tried K.moment K.left_since K.opens K.tells_stops K.rows_told inside.opened.value inside.keeper
-    c.append_all.new.self
-    inside.log.entries c.args.group.items c.deref-5.result.now inside.live.tables (added-rows g c) c.self.invariant
+    (kept_adds K.rows K.tried K.moment K.left_since K.opens K.tells_stops K.rows_told inside.opened.value
+    inside.keeper c.append_all.new.self
+    (K.tells_alike c.append_all.new.self inside.keeper c.append_all.ensures.alike)
+    inside.log.entries c.args.group.items c.deref-5.result.now inside.live.tables (added-rows g c) (
+      c.self.invariant.0,
+      c.self.invariant.1,
+    )
     (subst (λ (h : History). AddsOne h c.args.group.items) (sym same) c.requires.adds)
     c.append_all.ensures.stops c.append_all.ensures.between c.in-Ok-append_all.ensures.tried told)
 
 pub returns-in-Err-Failed-clause-stops : goal.returns-in-Err-Failed-clause-stops
-returns-in-Err-Failed-clause-stops g c = λ told.
+returns-in-Err-Failed-clause-stops g c = λ tells.
     let K = g.K.Keeper in
+    let told = subst (λ (v : SeenBook g.row.K.Denot). IsTrue (K.tells_stops v.keeper)) (sym c.self.view_is) tells in
     let inside = c.self.inside in
     let same = ap (λ (v : SeenBook g.row.K.Denot). v.log) c.self.view_is in
-    subst (λ (v : SeenBook g.row.K.Denot). Adding K.rows K.tried K.moment K.left_since K.opens {T = Unit {0}}
+    subst (λ (v : SeenBook g.row.K.Denot). Adding K.rows K.tried K.moment K.left_since K.opens K.tells_stops {T = Unit
+    {0}}
     (Err errors.KeeperFault) v.log c.args.group.items v.keeper c.append_all.new.self)
     c.self.view_is
     (refused_adds K.rows K.tried K.moment K.left_since K.opens K.tells_stops K.rows_told inside.opened.value
     inside.keeper c.append_all.new.self
+    (K.tells_alike c.append_all.new.self inside.keeper c.append_all.ensures.alike)
     inside.log.entries c.args.group.items c.deref-5.result.now inside.live.tables
-    (c.deref-5.ensures.value ∙ c.in-Ok.ensures ∙ ap rows_of c.deref.ensures.value) c.self.invariant
+    (c.deref-5.ensures.value ∙ c.in-Ok.ensures ∙ ap rows_of c.deref.ensures.value) (
+      c.self.invariant.0,
+      c.self.invariant.1,
+    )
     (subst (λ (h : History). AddsOne h c.args.group.items) (sym same) c.requires.adds)
     c.append_all.ensures.stops c.append_all.ensures.between errors.KeeperFault c.in-Err-Failed.ensures.tried told)
 
 pub returns-in-Err-OutOfMemory-clause-stops : goal.returns-in-Err-OutOfMemory-clause-stops
-returns-in-Err-OutOfMemory-clause-stops g c = λ told.
+returns-in-Err-OutOfMemory-clause-stops g c = λ tells.
     let K = g.K.Keeper in
+    let told = subst (λ (v : SeenBook g.row.K.Denot). IsTrue (K.tells_stops v.keeper)) (sym c.self.view_is) tells in
     let inside = c.self.inside in
     let same = ap (λ (v : SeenBook g.row.K.Denot). v.log) c.self.view_is in
-    subst (λ (v : SeenBook g.row.K.Denot). Adding K.rows K.tried K.moment K.left_since K.opens {T = Unit {0}}
+    subst (λ (v : SeenBook g.row.K.Denot). Adding K.rows K.tried K.moment K.left_since K.opens K.tells_stops {T = Unit
+    {0}}
     (Err errors.OutOfMemory) v.log c.args.group.items v.keeper c.append_all.new.self)
     c.self.view_is
     (refused_adds K.rows K.tried K.moment K.left_since K.opens K.tells_stops K.rows_told inside.opened.value
     inside.keeper c.append_all.new.self
+    (K.tells_alike c.append_all.new.self inside.keeper c.append_all.ensures.alike)
     inside.log.entries c.args.group.items c.deref-5.result.now inside.live.tables
-    (c.deref-5.ensures.value ∙ c.in-Ok.ensures ∙ ap rows_of c.deref.ensures.value) c.self.invariant
+    (c.deref-5.ensures.value ∙ c.in-Ok.ensures ∙ ap rows_of c.deref.ensures.value) (
+      c.self.invariant.0,
+      c.self.invariant.1,
+    )
     (subst (λ (h : History). AddsOne h c.args.group.items) (sym same) c.requires.adds)
     c.append_all.ensures.stops c.append_all.ensures.between errors.OutOfMemory c.in-Err-OutOfMemory.ensures.tried told)
 
 pub returns-in-Err-OutOfMemory-clause-untried : goal.returns-in-Err-OutOfMemory-clause-untried
-returns-in-Err-OutOfMemory-clause-untried g c = λ told is.
+returns-in-Err-OutOfMemory-clause-untried g c = λ tells is.
+    let K = g.K.Keeper in
+    let told = subst (λ (v : SeenBook g.row.K.Denot). IsTrue (K.tells_stops v.keeper)) (sym c.self.view_is) tells in
     c.in-Err-OutOfMemory.ensures.untried told (ap Err c.in-Err-OutOfMemory.field-0-is)
     ∙ ap (λ (v : SeenBook g.row.K.Denot). v.keeper) c.self.view_is

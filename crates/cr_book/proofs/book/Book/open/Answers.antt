@@ -1,6 +1,6 @@
-use Rattle.std.proofs.Common.{subst, sym}
-use Rattle.cr_book.specs.Stopping.{StopsWell}
-use Rattle.cr_book.proofs.StopLaws.{opened_well, spelled_kept}
+use Rattle.std.proofs.Common.{◌∙◌, ap, subst, sym}
+use Rattle.cr_book.specs.Stopping.{CountsTried, StopsWell}
+use Rattle.cr_book.proofs.StopLaws.{counted_opened, opened_well, spelled_kept}
 use Rattle.cr_book.proofs.StoreLaws.{opens-book, opens-not}
 use Rattle.cr_book.proofs.book.Book.open.Goals as goal
 
@@ -18,12 +18,13 @@ pub returns-in-Ok-clause-between : goal.returns-in-Ok-clause-between
 returns-in-Ok-clause-between g c told =
     let K = g.K.Keeper in
     (opened_well K.rows K.tried K.moment K.left_since K.opens c.args.keeper c.read_all.new.keeper c.in-Ok.log.entries
-    (K.rows_told told c.args.keeper)
+    (K.rows_told c.args.keeper told)
     c.in-Ok.ensures.legal.0 c.in-Ok.ensures.spelled (c.in-Ok.ensures.still told) (c.in-Ok.ensures.between told)).between
 
 pub invariant_of-result : goal.invariant_of-result
 invariant_of-result g c =
     let K = g.K.Keeper in
+    let alike = K.tells_alike c.read_all.new.keeper c.args.keeper c.read_all.ensures.alike in
     let log = c.in-Ok.log.entries in (
       record {
         legal = c.in-Ok.ensures.legal.0;
@@ -31,10 +32,15 @@ invariant_of-result g c =
         kept = spelled_kept (K.rows c.args.keeper) (K.rows c.read_all.new.keeper) log c.in-Ok.ensures.same
             c.in-Ok.ensures.spelled;
       },
-      λ told.
+      λ telling. let told = sym alike ∙ telling in
           subst (λ (k : g.row.K.Denot). StopsWell K.rows K.tried K.moment K.left_since K.opens k c.read_all.new.keeper
           log) (sym c.of-opened.ensures)
           (opened_well K.rows K.tried K.moment K.left_since K.opens c.args.keeper c.read_all.new.keeper log
-          (K.rows_told told c.args.keeper)
+          (K.rows_told c.args.keeper told)
           c.in-Ok.ensures.legal.0 c.in-Ok.ensures.spelled (c.in-Ok.ensures.still told) (c.in-Ok.ensures.between told)),
+      c.read_all.ensures.alike ∙ ap K.kind (sym c.of-opened.ensures),
+      λ telling.
+          subst (λ (k : g.row.K.Denot). CountsTried K.faults K.tried k c.read_all.new.keeper) (sym c.of-opened.ensures)
+          (counted_opened K.faults K.tried c.args.keeper c.read_all.new.keeper
+          (c.in-Ok.ensures.still (sym alike ∙ telling))),
     )
