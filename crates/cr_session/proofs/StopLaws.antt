@@ -12,7 +12,7 @@ use Rattle.cr_book.specs.Stopping.{Adding}
 use Rattle.cr_session.specs.Told.{drawn, and_drawn}
 use Rattle.cr_session.specs.Replay.{JudgedWish, Ledger, Replays, history_after}
 use Rattle.cr_session.specs.Tries.{Tries, TriesAlong, TriesWish, fate_of, tries_of}
-use Rattle.cr_session.specs.Stopping.{IsLostGroup, KeepsWishes, OpensBehind, history_behind}
+use Rattle.cr_session.specs.Stopping.{IsLostGroup, KeepsWishes, KeepsWishesTold, OpensBehind, history_behind}
 
 -- ---- the history after a turn
 
@@ -108,7 +108,7 @@ rows-behind opens H group added image is o =
 
 -- ---- one wish behind another
 
-module _ {K : Type 0} (tells : Bool) (rows : K → Option (List Row)) (tried : K → List (List Row)) (moment : K → ℕ)
+module _ {K : Type 0} (tells : K → Bool) (rows : K → Option (List Row)) (tried : K → List (List Row)) (moment : K → ℕ)
     (left_since : K → ℕ → List ℕ → Type 0) (opens : List ℕ → List Row → Type 0) (begun : ℕ) (opening : History) where
   abbrev tries : Tries K
   tries = tries_of tells rows tried moment left_since opens
@@ -179,7 +179,7 @@ module _ {K : Type 0} (tells : Bool) (rows : K → Option (List Row)) (tried : K
     -- one whose group was lost
     kept-lost : (j : JudgedWish) (d : Drawn) (H' : History) → j.lost ≡ true → j.seen ≡ H → drawn H j.wish ≡ Some d
         → history_after j ≡ H' → H' ≡ H
-        → Adding rows tried moment left_since opens {T = ⊤} {E = ⊤} (Err tt) H d.group k k'
+        → Adding rows tried moment left_since opens tells {T = ⊤} {E = ⊤} (Err tt) H d.group k k'
         → KeptBehind (done ++ j ∷ []) H' k'
     kept-lost j d H' lost seen draws at same a = record {
       at = behind-last opening done j ∙ at;
@@ -216,7 +216,7 @@ module _ {K : Type 0} (tells : Bool) (rows : K → Option (List Row)) (tried : K
 
     -- one whose group was kept
     kept-added : (j : JudgedWish) (d : Drawn) (H' : History) → history_after j ≡ H' → H' ≡ H ++ d.group
-        → Adding rows tried moment left_since opens {T = ⊤} {E = ⊤} (Ok tt) H d.group k k'
+        → Adding rows tried moment left_since opens tells {T = ⊤} {E = ⊤} (Ok tt) H d.group k k'
         → KeptBehind (done ++ j ∷ []) H' k'
     kept-added j d H' at adds a = record {
       at = behind-last opening done j ∙ at;
@@ -233,7 +233,7 @@ module _ {K : Type 0} (tells : Bool) (rows : K → Option (List Row)) (tried : K
             (subst (λ (h : History). opens image (rows_of h)) (sym adds) o))
 
     -- by whether it was lost, and by what it draws
-    kept-wish : (j : JudgedWish) (lost : Bool) (d : Option Drawn) → IsTrue tells → j.lost ≡ lost → j.seen ≡ H
+    kept-wish : (j : JudgedWish) (lost : Bool) (d : Option Drawn) → IsTrue (tells k) → j.lost ≡ lost → j.seen ≡ H
         → drawn H j.wish ≡ d → tries H (fate_of lost d) k k'
         → KeptBehind (done ++ j ∷ []) (history_after j) k'
     kept-wish j lost None told is seen draws did =
@@ -247,15 +247,29 @@ module _ {K : Type 0} (tells : Bool) (rows : K → Option (List Row)) (tried : K
         ∙ ap (λ (h : History). h ++ d.group) seen) (did told)
 
   -- a wish as it was judged
-  kept-judged : (done : List JudgedWish) (H : History) (k k' : K) → IsTrue tells → KeptBehind done H k
+  kept-judged : (done : List JudgedWish) (H : History) (k k' : K) → IsTrue (tells k) → KeptBehind done H k
       → (j : JudgedWish) → j.seen ≡ H
       → TriesWish tries j k k' → KeptBehind (done ++ j ∷ []) (history_after j) k'
   kept-judged done H k k' told kept j seen did =
       kept-wish done H k k' kept j j.lost (drawn H j.wish) told refl seen refl
       (subst (λ (h : History). tries h (fate_of j.lost (drawn h j.wish)) k k') seen did)
 
+  -- behind a turn the keeper tells as it did what a stop leaves
+  tells-on : (lost : Bool) (H : History) (d : Option Drawn) (k k' : K) → IsTrue (tells k)
+      → tries H (fate_of lost d) k k' → IsTrue (tells k')
+  tells-on lost H None k k' told did = subst (λ (x : K). IsTrue (tells x)) (sym (did told)) told
+  tells-on true H (Some d) k k' told did = (did told).telling ∙ told
+  tells-on false H (Some d) k k' told did = (did told).telling ∙ told
+
+  pub tells-along : (js : List JudgedWish) (k k' : K) → IsTrue (tells k) → TriesAlong tries js k k'
+      → IsTrue (tells k')
+  tells-along [] k k' told t = subst (λ (x : K). IsTrue (tells x)) (sym t) told
+  tells-along (j ∷ js) k k' told t =
+      tells-along js t.0 k' (tells-on j.lost j.seen (drawn j.seen j.wish) k t.0 told t.1) t.2
+
   -- and all of them
-  pub kept-along : (js done : List JudgedWish) (b b' : Ledger) (k k' : K) → IsTrue tells → KeptBehind done b.history k
+  pub kept-along : (js done : List JudgedWish) (b b' : Ledger) (k k' : K) → IsTrue (tells k) → KeptBehind done
+      b.history k
       → Replays js b b'
       → TriesAlong tries js k k' → KeptBehind (done ++ js) b'.history k'
   kept-along [] done b b' k k' told kept r t =
@@ -265,16 +279,19 @@ module _ {K : Type 0} (tells : Bool) (rows : K → Option (List Row)) (tried : K
   kept-along (j ∷ js) done b b' k k' told kept r t =
       let here = kept-judged done b.history k t.0 told kept j r.1.seen t.1 in
       subst (λ (x : List JudgedWish). KeptBehind x b'.history k') (append_assoc done (j ∷ []) js)
-      (kept-along js (done ++ j ∷ []) r.0 b' t.0 k' told
+      (kept-along js (done ++ j ∷ []) r.0 b' t.0 k' (tells-on j.lost j.seen (drawn j.seen j.wish) k t.0 told t.1)
       (subst (λ (h : History). KeptBehind (done ++ j ∷ []) h t.0) (sym r.1.history) here) r.2 t.2)
 
 -- over a keeper that is as it was
-pub wishes-none : {K : Type 0} (tells : Bool) (rows : K → Option (List Row)) (tried : K → List (List Row))
+pub wishes-none : {K : Type 0} (tells : K → Bool) (rows : K → Option (List Row)) (tried : K → List (List Row))
     (moment : K → ℕ)
-    (left_since : K → ℕ → List ℕ → Type 0) (opens : List ℕ → List Row → Type 0) (k : K) (opening : History)
+    (left_since : K → ℕ → List ℕ → Type 0) (opens : List ℕ → List Row → Type 0) (k : K) (opening last : History)
     (judged : List JudgedWish)
-    → KeepsWishes tells tried moment left_since opens k k opening judged
-wishes-none tells rows tried moment left_since opens k opening judged told none between image left =
-    opens-more opens opening [] judged image
-    ((kept-none tells rows tried moment left_since opens (moment k) opening k (omega arith) none between).since image
-    left)
+    → KeepsWishesTold tells tried moment left_since opens k k opening last judged
+wishes-none tells rows tried moment left_since opens k opening last judged told none between = record {
+  since = λ image left.
+      opens-more opens opening [] judged image
+      ((kept-none tells rows tried moment left_since opens (moment k) opening k (omega arith) none between).since image
+      left);
+  lost = λ added among. absurd (subst (λ (l : List (List Row)). IsAmong l added) none among);
+}

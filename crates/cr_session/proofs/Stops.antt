@@ -11,18 +11,19 @@ use Rattle.cr_session.specs.declared.serve.Ending.{Ending}
 use Rattle.cr_session.specs.Passing.{KnownPass}
 use Rattle.cr_session.specs.Replay.{JudgedWish}
 use Rattle.cr_session.specs.Serving.{ConnectionInHistory}
-use Rattle.cr_session.specs.Stopping.{KeepsWishes}
+use Rattle.cr_session.specs.Stopping.{KeepsWishesTold}
 use Rattle.cr_session.specs.Tries.{Tries, TriesAlong, tries_of}
 use Rattle.cr_session.specs.Turning.{TurnsInVain}
 use Rattle.cr_session.proofs.Alone.{replays-closed, tries-alone, tries-vain}
 use Rattle.cr_session.proofs.Endings.{behind_judged, in_history, stays_behind}
-use Rattle.cr_session.proofs.StopLaws.{KeptBehind, kept-along, kept-none}
+use Rattle.cr_ports.specs.Stopping.{IsAmong}
+use Rattle.cr_session.proofs.StopLaws.{KeptBehind, kept-along, kept-none, tells-along}
 
 -- the value that a pass left is the one with which the lock was closed
 left-closed : {T : Type 0} (left : Option T) (x y : T) → left ≡ Some y → IfSome left (λ value. x ≡ value) → x ≡ y
 left-closed {T} left x y is closes = subst (λ (o : Option T). IfSome o (λ value. x ≡ value)) is closes
 
-module _ {K S Root : Type 0} (tells : Bool) (rows : K → Option (List Row)) (tried : K → List (List Row))
+module _ {K S Root : Type 0} (tells : K → Bool) (rows : K → Option (List Row)) (tried : K → List (List Row))
     (moment : K → ℕ)
     (left_since : K → ℕ → List ℕ → Type 0) (opens : List ℕ → List Row → Type 0)
     (list : SeenBook K → List Stamped) (faults : SeenBook K → ℕ) (root : SeenBook K → Root) (first x : SeenBook K)
@@ -38,10 +39,13 @@ module _ {K S Root : Type 0} (tells : Bool) (rows : K → Option (List Row)) (tr
     abbrev judged : List JudgedWish
     judged = c.answered ++ listed c.failed
 
-    pub stops-closed : KeepsWishes tells tried moment left_since opens first.keeper x.keeper (list first)
+    pub stops-closed : KeepsWishesTold tells tried moment left_since opens first.keeper x.keeper (list first) (list x)
         (c.answered ++ listed c.failed)
-    stops-closed told none between image left_here =
-        kept.since image (subst (λ (k : K). left_since k (moment first.keeper) image) last left_here)
+    stops-closed told none between = record {
+      since = λ image left_here.
+          kept.since image (subst (λ (k : K). left_since k (moment first.keeper) image) last left_here);
+      lost = λ added among. kept.lost added (subst (λ (k : K). IsAmong (tried k) added) last among);
+    }
       where
         alone : (c.judged.share ≡ 64) × (y : SeenBook K) × (c.judged.left ≡ Some y)
             × TriesAlong tries judged first.keeper y.keeper
@@ -67,9 +71,12 @@ module _ {K S Root : Type 0} (tells : Bool) (rows : K → Option (List Row)) (tr
         in_vain : (w : Wish) → TurnsInVain tries w c.judged p' → x.keeper ≡ alone.1.keeper
         in_vain w v =
             let last = tries-vain tries w c.judged p' alone.1 alone.0 alone.2 v in
-            ap (λ (b : SeenBook K). b.keeper) (left-closed p'.left x last.0 last.1 closes.left) ∙ last.2 told
+            ap (λ (b : SeenBook K). b.keeper) (left-closed p'.left x last.0 last.1 closes.left)
+            ∙ last.2 (tells-along tells rows tried moment left_since opens (moment first.keeper) (list first) judged
+            first.keeper alone.1.keeper told alone.3)
 
         -- behind the turns of the wishes nothing is tried
         last : x.keeper ≡ alone.1.keeper
         last = ⊎_elim at_rest (λ turn. in_vain turn.0 turn.1)
-            (behind_judged (TurnsInVain tries) ending 0 c.got c.got c.answered c.failed c.judged p' d d' c.settled c.ends)
+            (behind_judged (TurnsInVain tries) ending 0 c.got c.got c.answered c.failed c.judged p' d d' c.settled
+            c.ends)

@@ -25,7 +25,7 @@ accepted-still {F} {K} (Repeats r) b b' receipt acts stays none = ap (λ (x : Se
 accepted-still (Judged (Ok drawn)) b b' receipt acts stays none = absurd (cc (none))
 accepted-still (Judged (Err refusal)) b b' receipt acts stays none = absurd acts
 
-module _ {K : Type 0} (tells : Bool) (rows : K → Option (List Row)) (tried : K → List (List Row)) (moment : K → ℕ)
+module _ {K : Type 0} (tells : K → Bool) (rows : K → Option (List Row)) (tried : K → List (List Row)) (moment : K → ℕ)
     (left_since : K → ℕ → List ℕ → Type 0) (opens : List ℕ → List Row → Type 0) where
   -- what turns do with such a keeper
   abbrev tries : Tries K
@@ -50,16 +50,18 @@ module _ {K : Type 0} (tells : Bool) (rows : K → Option (List Row)) (tried : K
   module _ {T E : Type 0} (result : Result T E) (H : History) (k k' : K) where
     -- what the call says of it
     abbrev Adds : Option Drawn → Type 0
-    Adds d = IsTrue tells → (x : Drawn) → d ≡ Some x → Adding rows tried moment left_since opens result H x.group k k'
+    Adds d = IsTrue (tells k) → (x : Drawn) → d ≡ Some x
+        → Adding rows tried moment left_since opens tells result H x.group k k'
 
     pub tries-kept : (done : T) (d : Option Drawn) → result ≡ Ok done → (d ≡ None → k' ≡ k) → Adds d
         → tries H (kept_of d) k k'
     tries-kept done None is still adds = λ told. still refl
     tries-kept done (Some x) is still adds =
-        λ told. kept_adding rows tried moment left_since opens result done tt H x.group k k' is (adds told x refl)
+        λ told. kept_adding rows tried moment left_since opens tells result done tt H x.group k k' is (adds told x refl)
 
     pub tries-refused : (error : E) (d : Option Drawn) → result ≡ Err error → IsSome d → Adds d
         → tries H (lost_of d) k k'
     tries-refused error None is some adds = absurd (cc (some))
     tries-refused error (Some x) is some adds =
-        λ told. refused_adding rows tried moment left_since opens result error tt H x.group k k' is (adds told x refl)
+        λ told. refused_adding rows tried moment left_since opens tells result error tt H x.group k k' is (adds told x
+        refl)

@@ -34,11 +34,19 @@ pub record OpensBehind (opens : List ℕ → List Row → Type 0) (opening : His
       ⊎ ((group : History) × IsLostGroup judged (history_behind opening first) group
       × opens image (rows_of (history_behind opening first ++ group)))
 
--- Of a keeper that tells what a stop leaves, with which nothing had been tried in vain when these wishes came, on this
--- history: what a stop at some moment since then may have left.
-abbrev pub KeepsWishes : {K : Type 0} → Bool → (K → List (List Row)) → (K → ℕ) → (K → ℕ → List ℕ → Type 0)
-    → (List ℕ → List Row → Type 0) → K → K → History → List JudgedWish → Type 0
-KeepsWishes tells tried moment left_since opens old new opening judged =
-    IsTrue tells → tried old ≡ []
+-- What a stop at some moment since these wishes came, on this history, may have left; and the groups of which one may
+-- be found behind the rows of the last history: those of wishes that were lost on it.
+pub record KeepsWishes {K : Type 0} (tried : K → List (List Row)) (moment : K → ℕ)
+    (left_since : K → ℕ → List ℕ → Type 0) (opens : List ℕ → List Row → Type 0) (old new : K)
+    (opening last : History) (judged : List JudgedWish) : Type 0 where
+  pub since : (image : List ℕ) → left_since new (moment old) image → OpensBehind opens opening judged image
+  pub lost : (added : List Row) → IsAmong (tried new) added
+      → (group : History) × IsLostGroup judged last group × (added ≡ rows_of group)
+
+-- The same of a keeper that tells what a stop leaves, with which nothing had been tried in vain when these wishes came.
+abbrev pub KeepsWishesTold : {K : Type 0} → (K → Bool) → (K → List (List Row)) → (K → ℕ) → (K → ℕ → List ℕ → Type 0)
+    → (List ℕ → List Row → Type 0) → K → K → History → History → List JudgedWish → Type 0
+KeepsWishesTold tells tried moment left_since opens old new opening last judged =
+    IsTrue (tells old) → tried old ≡ []
     → ((image : List ℕ) → left_since old (moment old) image → OpensTo opens (rows_of opening) (tried old) image)
-    → (image : List ℕ) → left_since new (moment old) image → OpensBehind opens opening judged image
+    → KeepsWishes tried moment left_since opens old new opening last judged

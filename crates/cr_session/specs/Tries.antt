@@ -34,13 +34,13 @@ Tries K = History → Fate → K → K → Type 0
 -- Where the keeper tells what a stop of the machine may leave: it is as it was where nothing is drawn. Else a stop
 -- while the group was being put behind the history leaves its rows, or these and then whole this group or one that had
 -- been tried.
-abbrev pub tries_of : {K : Type 0} → Bool → (K → Option (List Row)) → (K → List (List Row)) → (K → ℕ)
+abbrev pub tries_of : {K : Type 0} → (K → Bool) → (K → Option (List Row)) → (K → List (List Row)) → (K → ℕ)
     → (K → ℕ → List ℕ → Type 0) → (List ℕ → List Row → Type 0) → Tries K
-tries_of tells rows tried moment left_since opens H Nothing old new = IsTrue tells → new ≡ old
+tries_of tells rows tried moment left_since opens H Nothing old new = IsTrue (tells old) → new ≡ old
 tries_of tells rows tried moment left_since opens H (Kept d) old new =
-    IsTrue tells → Adding rows tried moment left_since opens {T = ⊤} {E = ⊤} (Ok tt) H d.group old new
+    IsTrue (tells old) → Adding rows tried moment left_since opens tells {T = ⊤} {E = ⊤} (Ok tt) H d.group old new
 tries_of tells rows tried moment left_since opens H (Lost d) old new =
-    IsTrue tells → Adding rows tried moment left_since opens {T = ⊤} {E = ⊤} (Err tt) H d.group old new
+    IsTrue (tells old) → Adding rows tried moment left_since opens tells {T = ⊤} {E = ⊤} (Err tt) H d.group old new
 
 module _ {K : Type 0} (tries : Tries K) where
   -- a wish was judged over a keeper, which is this one then
