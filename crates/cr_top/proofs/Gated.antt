@@ -26,11 +26,12 @@ use Rattle.cr_top.specs.declared.exit.Exit.TheVariants as exits
 use Rattle.cr_top.specs.Exits.{exit_of_workers}
 use Rattle.cr_top.specs.Serves.{GatesState, IsNew, AreDoorsTold, OpensAt, TellsEntries, ServesMany, ServesGates}
 use Rattle.cr_top.specs.Serves.{StaysClosed, IsWhyClosed}
-use Rattle.cr_top.specs.Stores.{IsWhyShut, Keeping, KeepsOthers, OpensStore, ShelfState}
+use Rattle.cr_top.specs.Stores.{IsWhyShut, Keeping, KeepsOthers, LeavesExactly, OpensStore, ShelfState}
 use Rattle.cr_top.proofs.Doors.{all-of, are-told, back-works, counts-all, every-seen, failed-counts, map-seen, none-all}
 use Rattle.cr_top.proofs.Doors.{total-seen, total-sum}
 use Rattle.cr_top.proofs.Lost.{lost-count}
 use Rattle.cr_top.proofs.Stored.{count-now, opens-or-memory, risen, same-rows}
+use Rattle.cr_top.proofs.Unmarked.{none-rises}
 
 -- ---- doors that were shut
 
@@ -99,6 +100,7 @@ pub serves-many : {K I O C : Type 0} (tells : Bool) (rows : K → Option (List R
     → IfSome (rows keeper') (λ k. StandsAfter tells k (tried keeper') (m.rows path) (s'.rows path))
     → KeepsOthers path m s'
     → Gains m.faults (faults keeper') s'.faults
+    → (faults keeper' ≡ 0 → LeavesExactly path book'.log s s')
     → map (λ (d : SeenDoor I O C). d.left) doors ≡ shares workers connections → Every IsNew doors
     → ServesHistory streams ended doors doors' (ledger_of faults book) (ledger_of faults book')
     → TellsEntries written (length book'.log) o o'
@@ -107,7 +109,7 @@ pub serves-many : {K I O C : Type 0} (tells : Bool) (rows : K → Option (List R
     → ServesMany keeps path streams listen workers connections exit o o' s s' g g'
 serves-many {K} {I} {O} {C} tells rows tried keeps faults path streams listen workers connections ended written exit is
     book book' keeper' doors doors' o o' s m s' g h g' at opens
-    same legal so stands others gains shared new serves line told counted asked = record {
+    same legal so stands others gains exact shared new serves line told counted asked = record {
       opening = book.log;
       opens = opens.legal;
       found = opens.found;
@@ -130,6 +132,9 @@ serves-many {K} {I} {O} {C} tells rows tried keeps faults path streams listen wo
       counted = gained;
       lost = lost-count streams book.log book'.log (connections_of from.works) from.served (faults keeper') s.faults
           s'.faults from.marked gained;
+      exact = λ none. exact (from.counted
+          ∙ ap (λ (n : ℕ). 0 + n)
+          (none-rises streams book.log book'.log (connections_of from.works) from.served none));
       asked = asked ∙ at.asked;
       told = doors-told g'.logs told;
       gates = subst (λ (n : ℕ). Gains n (total (λ (d : SeenDoor I O C). d.faults) doors') g'.faults) at.faults counted;

@@ -4,5 +4,6 @@ mod Stored
 mod Entries
 mod Doors
 mod Lost
+mod Unmarked
 mod Gated
 mod Named

@@ -6,7 +6,8 @@ use Rattle.cr_top.specs.declared.exit.Exit.{Exit}
 use Rattle.cr_top.specs.Jobs.{Surroundings, AnswersJob, Does, DoesJob}
 use Rattle.cr_top.specs.Stores.{Keeping}
 
-pub does-named : {I K A B D : Type 0} (tells_stops : Bool) (keeps : List ℕ → Keeping) (left : I → Option (List ℕ))
+pub does-named : {I K A B D : Type 0} (tells_stops : List ℕ → Bool) (keeps : List ℕ → Keeping)
+    (left : I → Option (List ℕ))
     (gives : I → I → List ℕ → Type 0)
     (streams : Streams K A B D) (named job : NamedJob) (exit : Exit) (a a' : Surroundings I A B D)
     → named ≡ job → DoesJob tells_stops keeps left gives streams job exit a a'

@@ -1,5 +1,6 @@
 -- ShelfState that open, and stores that don't.
-use Rattle.std.proofs.Common.{◌≡◌, ◌∙◌, ◌≤◌, ◌<◌, ◌++◌, ◌⊎◌, inl, inr, ℕ, List, [], ◌∷◌, length, Bool, true, false}
+use Rattle.std.proofs.Common.{◌≡◌, ◌∙◌, ◌≤◌, ◌<◌, ◌++◌, ◌⊎◌, ⊎_elim, inl, inr, ℕ, List, [], ◌∷◌, length, Bool, true}
+use Rattle.std.proofs.Common.{false}
 use Rattle.std.proofs.Common.{Option, Some, None, Result, Ok, Err, IfSome, refl, sym, ap, ap₂, subst, arith}
 use Rattle.std.specs.Prelude.{IsTrue, is_some}
 use Rattle.std.proofs.lemmas.Bool.{false≢true}
@@ -22,7 +23,7 @@ use Rattle.cr_ports.specs.declared.keeper.KeeperError.TheVariants as refusals
 use Rattle.cr_ports.specs.Count.{Gains, Rises}
 use Rattle.cr_ports.specs.Writing.{Outlet}
 use Rattle.cr_ports.specs.Shelving.{StandsAfter, StaysOpened}
-use Rattle.cr_ports.specs.Stopping.{IsAmong}
+use Rattle.cr_ports.specs.Stopping.{IsAmong, OpensTo}
 use Rattle.cr_policy.specs.Legal.{Legal}
 use Rattle.cr_book.specs.declared.opening.OpenError.{OpenError}
 use Rattle.cr_book.specs.declared.opening.OpenError.TheVariants as errors
@@ -32,16 +33,19 @@ use Rattle.cr_book.specs.Sound.{IsKept}
 use Rattle.cr_book.proofs.OpeningOnward.{legal-bounded}
 use Rattle.cr_session.specs.declared.serve.Ending.{Ending}
 use Rattle.cr_session.specs.Replay.{JudgedWish}
+use Rattle.cr_session.proofs.Endings.{replayed}
+use Rattle.cr_session.proofs.Turns as turns
 use Rattle.cr_session.specs.Serving.{ConnectionBytes, WholeBytes}
-use Rattle.cr_session.specs.Stopping.{KeepsWishes}
+use Rattle.cr_session.specs.Stopping.{IsLostGroup, KeepsWishes, KeepsWishesTold}
 use Rattle.cr_top.specs.declared.exit.Exit.{Exit}
 use Rattle.cr_top.specs.declared.exit.Exit.TheVariants as exits
 use Rattle.cr_top.specs.Exits.{exit_of, exit_of_rows}
 use Rattle.cr_top.specs.Runs.{Keeps, Outside, Pipes, world}
-use Rattle.cr_book.specs.Stopping.{AddsOne, KeepsTold, OpensAmid}
-use Rattle.cr_top.specs.Stores.{AnswersView, BeginsAt, CrashKeepsGroups, CrashKeepsWishes, IsBadStore, Keeping}
-use Rattle.cr_top.specs.Stores.{KeepsOthers, KeepsRows, KeepsStore, LeavesRows, OpensStore, RowsByPath, ServesStore}
-use Rattle.cr_top.specs.Stores.{ShelfState, StaysShut, TellsRows, TellsView, ViewsStore}
+use Rattle.cr_book.specs.Stopping.{CountsTried, KeepsGroups, KeepsTold, OpensAmid}
+use Rattle.cr_top.specs.Stores.{AnswersView, BeginsAt, CrashKeepsGroups, IsBadStore, IsGroupInVain, Keeping}
+use Rattle.cr_top.specs.Stores.{KeepsOthers, KeepsRows, KeepsStore, KeepsWishesThere, LeavesExactly, OpensStore}
+use Rattle.cr_top.specs.Stores.{RowsByPath}
+use Rattle.cr_top.specs.Stores.{ServesStore, ShelfState, StandOrOneMore, StaysShut, TellsView, ViewsStore}
 
 -- ---- what stands at the paths
 
@@ -104,19 +108,38 @@ mapped (Some r) f a = f r a
 pub opens-store : {K : Type 0} (rows : K → Option (List Row)) (faults : K → ℕ) (path : List ℕ) (keeper : K)
     (book : SeenBook K)
     (s s' : ShelfState) → Legal book.log → IfSome (s.rows path) (λ there. rows keeper ≡ Some there)
-    → IfSome (rows keeper) (λ r. Opens r (Ok book)) → rows book.keeper ≡ rows keeper → faults book.keeper ≡ 0
+    → IfSome (rows keeper) (λ r. Opens r (Ok book)) → rows book.keeper ≡ rows keeper → book.opened ≡ keeper
+    → faults book.keeper ≡ 0
     → s'.rows ≡ s.rows → s'.faults ≡ s.faults → OpensStore rows faults path book s s'
-opens-store {K} rows faults path keeper book s s' legal found exact same fresh rows_stay faults_stay = record {
+opens-store {K} rows faults path keeper book s s' legal found exact same first fresh rows_stay faults_stay = record {
   legal = legal;
   found = mapped (s.rows path) (λ r told. (opened r told).1) found;
   only = mapped (s.rows path) (λ r told. (opened r told).2) found;
   told = mapped (s.rows path) (λ r told. same ∙ told) found;
+  still = same ∙ ap rows (sym first);
   fresh = fresh;
   same = (λ i. record { rows = rows_stay i; faults = faults_stay i });
 }
   where
     opened : (r : List Row) → rows keeper ≡ Some r → Opens {K = K} r (Ok book)
     opened r told = subst (λ (t : Option (List Row)). IfSome t (λ l. Opens {K = K} l (Ok book))) told exact
+
+-- the book begins with what its keeper had
+pub begins-at : {K : Type 0} (rows : K → Option (List Row)) (tried : K → List (List Row)) (moment : K → ℕ)
+    (left_since : K → ℕ → List ℕ → Type 0) (opens : List ℕ → List Row → Type 0) (at : ℕ) (keeper : K)
+    (book : SeenBook K) → book.opened ≡ keeper → book.keeper ≡ keeper → at ≡ moment keeper → tried keeper ≡ []
+    → IfSome (rows keeper) (λ r. Opens r (Ok book))
+    → ((image : List ℕ) → left_since book.keeper (moment book.keeper) image
+    → OpensTo opens (rows_of book.log) (tried book.keeper) image)
+    → BeginsAt rows tried moment left_since opens at book
+begins-at {K} rows tried moment left_since opens at keeper book first still here none exact between = record {
+  at = here ∙ ap moment (sym first);
+  still = still ∙ sym first;
+  none = ap tried first ∙ none;
+  first = subst (λ (k : K). IfSome (rows k) (λ told. rows_of book.log ≡ told)) (sym first)
+      (mapped (rows keeper) (λ r so. so.1) exact);
+  between = between;
+}
 
 -- a count rises where it gains what another rose by, from 0 on
 pub risen : (f faults f' : ℕ) → Rises 0 faults → Gains f faults f' → Rises f f'
@@ -184,38 +207,33 @@ module _ {K : Type 0} (tells : Bool) (rows : K → Option (List Row)) (tried : K
   pub count-now : Gains s.faults (faults keeper') s'.faults
   count-now = subst (λ (n : ℕ). Gains n (faults keeper') s'.faults) (ap (λ (x : ShelfState). x.faults) opens.same) gains
 
-  -- with the rows of a history, where it has them, and perhaps a group that was tried
-  pub leaves-rows : (H : History) → IsKept rows keeper' H
-      → (IsTrue tells → (added : List Row) → IsAmong (tried keeper') added
-      → (group : History) × AddsOne H group × (added ≡ rows_of group))
-      → TellsRows rows → LeavesRows tells path H s s'
-  leaves-rows H is follows all =
-      record { there = told-there (rows keeper') is rows-now (all keeper'); others = others-now }
-    where
-      there-after : (before there : Option (List Row)) (r : List Row) → r ≡ rows_of H
-          → StandsAfter tells r (tried keeper') before there
-          → IfSome before (λ _. (there ≡ Some (rows_of H))
-          ⊎ (IsTrue tells × ((group : History) × AddsOne H group × (there ≡ Some (rows_of (H ++ group))))))
-      there-after None there r is after = tt
-      there-after (Some before) there r is (inl same) = inl (same ∙ ap Some is)
-      there-after (Some before) there r is (inr more) =
-          let f = follows more.0 more.1.0 more.1.1 in
-          inr (
-            more.0,
-            (
-              f.0,
-              f.1,
-              more.1.2
-                  ∙ ap Some (ap₂ (λ (xs ys : List Row). xs ++ ys) is f.2 ∙ sym (map-append row_of H f.0)),
-            ),
-          )
-
-      told-there : (told : Option (List Row)) → IfSome told (λ t. t ≡ rows_of H)
-          → IfSome told (λ k. StandsAfter tells k (tried keeper') (s.rows path) (s'.rows path)) → IsTrue (is_some told)
-          → IfSome (s.rows path) (λ _. (s'.rows path ≡ Some (rows_of H))
-          ⊎ (IsTrue tells × ((group : History) × AddsOne H group × (s'.rows path ≡ Some (rows_of (H ++ group))))))
-      told-there None is after there = absurd (false≢true there)
-      told-there (Some t) is after there = there-after (s.rows path) (s'.rows path) t is after
+  -- with the rows of a history, where they were told, and perhaps a group that was tried
+  module _ (H : History) (is : IsKept rows keeper' H) (alike : is_some (rows keeper') ≡ is_some (rows book.opened))
+      (IsLost : History → Type 0)
+      (follows : IsTrue tells → (added : List Row) → IsAmong (tried keeper') added
+      → (group : History) × IsLost group × (added ≡ rows_of group)) where
+    pub stand : StandOrOneMore tells path H IsLost s s'
+    stand = at (s.rows path) (s'.rows path) (rows keeper')
+        (mapped (s.rows path) (λ r told. alike ∙ ap is_some (sym opens.still ∙ told)) opens.told) is rows-now
+      where
+        at : (before there told : Option (List Row)) → IfSome before (λ b. IsTrue (is_some told))
+            → IfSome told (λ t. t ≡ rows_of H) → IfSome told (λ k. StandsAfter tells k (tried keeper') before there)
+            → IfSome before (λ b. (there ≡ Some (rows_of H))
+            ⊎ (IsTrue tells × ((group : History) × IsLost group × (there ≡ Some (rows_of (H ++ group))))))
+        at None there told some same after = tt
+        at (Some b) there None some same after = absurd (false≢true some)
+        at (Some b) there (Some r) some same (inl stands) = inl (stands ∙ ap Some same)
+        at (Some b) there (Some r) some same (inr more) =
+            let f = follows more.0 more.1.0 more.1.1 in
+            inr (
+              more.0,
+              (
+                f.0,
+                f.1,
+                more.1.2
+                    ∙ ap Some (ap₂ (λ (xs ys : List Row). xs ++ ys) same f.2 ∙ sym (map-append row_of H f.0)),
+              ),
+            )
 
   -- as it was opened
   pub same-rows : keeper' ≡ book.keeper → (IsTrue tells → tried keeper' ≡ []) → KeepsRows s s'
@@ -239,10 +257,11 @@ pub serves-store : {K I : Type 0} (tells : Bool) (rows : K → Option (List Row)
     → KeepsOthers path m s'
     → Gains m.faults (faults keeper') s'.faults
     → ((history : History) → IsKept rows keeper' history → (judged : List JudgedWish) → kept-so history judged
-    → keeps.store book.log history s s' × keeps.wishes book.log judged)
+    → keeps.store book.log history s s' × keeps.wishes book.log history judged s s')
+    → ((history : History) → IsKept rows keeper' history → faults keeper' ≡ 0 → LeavesExactly path history s s')
     → ServesStore keeps path left gives exit o o' s s'
 serves-store {K} {I} tells rows tried kept-so keeps faults path left gives exit ending is book keeper' o o' s m s' opens
-    p kept others gains so = record {
+    p kept others gains so exact = record {
       opening = book.log;
       opens = opens.legal;
       found = opens.found;
@@ -257,19 +276,37 @@ serves-store {K} {I} tells rows tried kept-so keeps faults path left gives exit 
           (world o' p.history (faults keeper')))
           opens.fresh (p.whole b told);
       leaves = held.0;
-      stops = from.1;
-      counted = count-now tells rows tried faults path book keeper' s m s' opens kept others gains;
+      wishes = from.1;
+      counted = gained;
+      lost = (
+        gained.0,
+        λ below. let up = gained.1 below in
+            let most = turns.counted (from.0.answered ++ listed from.0.failed) (record {
+              history = book.log;
+              faults = 0;
+            })
+            (record { history = p.history; faults = faults keeper' })
+            (replayed left gives ending 0 [] (world o book.log 0) (world o' p.history (faults keeper')) from.0)
+            (omega (arith, below, up)) in
+            omega (arith, up, most),
+      );
+      exact = λ none. exact p.history p.kept (turns.stands (from.0.answered ++ listed from.0.failed)
+          (record { history = book.log; faults = 0 }) (record { history = p.history; faults = faults keeper' })
+          (replayed left gives ending 0 [] (world o book.log 0) (world o' p.history (faults keeper')) from.0) none);
     }
   where
+    gained : Gains s.faults (faults keeper') s'.faults
+    gained = count-now tells rows tried faults path book keeper' s m s' opens kept others gains
+
     held : keeps.store book.log p.history s s'
-        × keeps.wishes book.log (p.connection.answered ++ listed p.connection.failed)
+        × keeps.wishes book.log p.history (p.connection.answered ++ listed p.connection.failed) s s'
     held = so p.history p.kept (p.connection.answered ++ listed p.connection.failed) p.besides
 
     -- the keeper had counted no fault at first
     Begun : ℕ → Type 0
     Begun n =
         (c : ConnectionBytes left gives ending 0 [] (world o book.log n) (world o' p.history (faults keeper')))
-        × keeps.wishes book.log (c.answered ++ listed c.failed)
+        × keeps.wishes book.log p.history (c.answered ++ listed c.failed) s s'
 
     from : Begun 0
     from = subst (λ (n : ℕ). Begun n) opens.fresh (p.connection, held.1)
@@ -381,15 +418,17 @@ pub groups-kept : {K : Type 0} (tells : Bool) (rows : K → Option (List Row)) (
     (moment : K → ℕ)
     (left_since : K → ℕ → List ℕ → Type 0) (opens : List ℕ → List Row → Type 0) (left : List ℕ → Type 0) (at : ℕ)
     (book : SeenBook K) (keeper' : K)
-    → (IsTrue tells → (k : K) → IsTrue (is_some (rows k)))
+    → (IsTrue tells → IsTrue (is_some (rows book.opened)))
     → (IsTrue tells → BeginsAt rows tried moment left_since opens at book)
     → (IsTrue tells → (image : List ℕ) → left image → left_since keeper' at image)
-    → (history : History) → KeepsTold rows tried moment left_since opens tells book.opened keeper' history
+    → (history : History)
+    → (IsTrue tells → tried book.opened ≡ [] → KeepsGroups rows tried moment left_since opens book.opened keeper'
+    history)
     → CrashKeepsGroups tells opens left book.log history
 groups-kept {K} tells rows tried moment left_since opens left at book keeper' there begins shut history kept told image
     may =
     let b = begins told in
-    opened-rows (rows book.opened) (there told book.opened) b.first
+    opened-rows (rows book.opened) (there told) b.first
     ((kept told b.none).since image (subst (λ (t : ℕ). left_since keeper' t image) b.at (shut told image may)))
   where
     opened-rows : (first : Option (List Row)) → IsTrue (is_some first) → IfSome first (λ r. rows_of book.log ≡ r)
@@ -397,42 +436,96 @@ groups-kept {K} tells rows tried moment left_since opens left at book keeper' th
     opened-rows None none is a = absurd (false≢true none)
     opened-rows (Some r) some is a = subst (λ (x : List Row). OpensAmid opens (Some x) history image) (sym is) a
 
--- what a book's keeper keeps, its shelf tells once the keeper was shut
-pub keeps-store : {K : Type 0} (tells : Bool) (rows : K → Option (List Row)) (tried : K → List (List Row))
+-- What a book's keeper keeps, its shelf tells once the keeper was shut. The book was opened over a keeper of a path at
+-- which the shelf's keepers tell so.
+module _ {K : Type 0} (tells : Bool) (telling : K → Bool) (rows : K → Option (List Row)) (tried : K → List (List Row))
     (moment : K → ℕ)
     (left_since : K → ℕ → List ℕ → Type 0) (opens : List ℕ → List Row → Type 0) (left : List ℕ → List ℕ → Type 0)
     (at : ℕ)
     (faults : K → ℕ) (path : List ℕ) (book : SeenBook K) (keeper' : K) (s m s' : ShelfState)
-    → (IsTrue tells → (k : K) → IsTrue (is_some (rows k)))
-    → (IsTrue tells → BeginsAt rows tried moment left_since opens at book)
-    → (IsTrue tells → (image : List ℕ) → left path image → left_since keeper' at image)
-    → OpensStore rows faults path book s m
-    → IfSome (rows keeper') (λ k. StandsAfter tells k (tried keeper') (m.rows path) (s'.rows path))
-    → KeepsOthers path m s'
-    → Gains m.faults (faults keeper') s'.faults
-    → (history : History) → IsKept rows keeper' history
-    → KeepsTold rows tried moment left_since opens tells book.opened keeper' history
-    → KeepsStore rows tells opens left path book.log history s s'
-keeps-store tells rows tried moment left_since opens left at faults path book keeper' s m s' there begins shut opened
-    stands others gains
-    history is kept = record {
-      kept = leaves-rows tells rows tried faults path book keeper' s m s' opened stands others gains history is
-          (λ told. (kept told (begins told).none).tried_follow);
-      stops =
-          groups-kept tells rows tried moment left_since opens (left path) at book keeper' there begins shut history
-          kept;
-    }
+    (told : (k : K) → IsTrue (telling k) → IsTrue (is_some (rows k))) (so : telling book.opened ≡ tells)
+    (so' : telling keeper' ≡ tells) (alike : is_some (rows keeper') ≡ is_some (rows book.opened))
+    (begins : IsTrue tells → BeginsAt rows tried moment left_since opens at book)
+    (shut : IsTrue (telling keeper') → (image : List ℕ) → left path image → left_since keeper' at image)
+    (opened : OpensStore rows faults path book s m)
+    (there-now : IfSome (rows keeper') (λ k. StandsAfter tells k (tried keeper') (m.rows path) (s'.rows path)))
+    (others : KeepsOthers path m s')
+    (gains : Gains m.faults (faults keeper') s'.faults)
+    (history : History) (is : IsKept rows keeper' history) where
+  pub keeps-store : KeepsTold rows tried moment left_since opens telling book.opened keeper' history
+      → (IsTrue (telling keeper') → CountsTried faults tried book.opened keeper')
+      → KeepsStore tells opens left path book.log history s s'
+  keeps-store kept told-count = record {
+    kept = record {
+      there = stand tells rows tried faults path book keeper' s m s' opened there-now others gains history is alike
+          (IsGroupInVain history s s') follows;
+      others = others-now tells rows tried faults path book keeper' s m s' opened there-now others gains;
+    };
+    stops =
+        groups-kept tells rows tried moment left_since opens (left path) at book keeper'
+        (λ yes. told book.opened (so ∙ yes)) begins (λ yes. shut (so' ∙ yes)) history (λ yes. kept (so' ∙ yes));
+  }
+    where
+      rose : IsTrue tells → (added : List Row) → IsAmong (tried keeper') added → Rises s.faults s'.faults
+      rose yes added among =
+          let b = begins yes in
+          ⊎_elim (λ none. absurd (subst (λ (l : List (List Row)). IsAmong l added) none among))
+          (λ up. risen s.faults (faults keeper') s'.faults
+          (subst (λ (n : ℕ). Rises n (faults keeper')) (ap faults (sym b.still) ∙ opened.fresh) up)
+          (count-now tells rows tried faults path book keeper' s m s' opened there-now others gains))
+          ((told-count (so' ∙ yes)).counted b.none)
 
--- and by the wishes of one connection
-pub wishes-kept : {K : Type 0} (tells : Bool) (rows : K → Option (List Row)) (tried : K → List (List Row))
-    (moment : K → ℕ)
-    (left_since : K → ℕ → List ℕ → Type 0) (opens : List ℕ → List Row → Type 0) (left : List ℕ → Type 0) (at : ℕ)
-    (book : SeenBook K) (keeper' : K)
-    → (IsTrue tells → BeginsAt rows tried moment left_since opens at book)
-    → (IsTrue tells → (image : List ℕ) → left image → left_since keeper' at image)
-    → (judged : List JudgedWish) → KeepsWishes tells tried moment left_since opens book.keeper keeper' book.log judged
-    → CrashKeepsWishes tells opens left book.log judged
-wishes-kept tells rows tried moment left_since opens left at book keeper' begins shut judged kept told image may =
-    let b = begins told in
-    kept told (ap tried b.still ∙ b.none) b.between image
-    (subst (λ (t : ℕ). left_since keeper' t image) (b.at ∙ sym (ap moment b.still)) (shut told image may))
+      follows : IsTrue tells → (added : List Row) → IsAmong (tried keeper') added
+          → (group : History) × IsGroupInVain history s s' group × (added ≡ rows_of group)
+      follows yes added among =
+          let f = (kept (so' ∙ yes) (begins yes).none).tried_follow added among in
+          (f.0, record { adds = f.1; counted = rose yes added among }, f.2)
+
+  -- a keeper that has counted no fault leaves the rows of its history and no more
+  pub exact-rows : (IsTrue (telling keeper') → CountsTried faults tried book.opened keeper') → faults keeper' ≡ 0
+      → LeavesExactly path history s s'
+  exact-rows told-count none =
+      alone (s.rows path) (stand tells rows tried faults path book keeper' s m s' opened there-now others gains history
+      is
+      alike (λ group. ⊥) (λ yes added among. absurd (untried yes added among)))
+    where
+      untried : IsTrue tells → (added : List Row) → IsAmong (tried keeper') added → ⊥
+      untried yes added among =
+          let b = begins yes in
+          ⊎_elim (λ empty. subst (λ (l : List (List Row)). IsAmong l added) empty among)
+          (λ up. let first : faults book.opened ≡ 0 = ap faults (sym b.still) ∙ opened.fresh in
+          let more = up (omega (arith, none)) in
+          absurd (omega (arith, first, none, more)))
+          ((told-count (so' ∙ yes)).counted b.none)
+
+      alone : (before : Option (List Row))
+          → IfSome before (λ b. (s'.rows path ≡ Some (rows_of history))
+          ⊎ (IsTrue tells × ((group : History) × ⊥ × (s'.rows path ≡ Some (rows_of (history ++ group))))))
+          → IfSome before (λ b. s'.rows path ≡ Some (rows_of history))
+      alone None stand = tt
+      alone (Some b) (inl same) = same
+      alone (Some b) (inr more) = absurd more.1.1
+
+  -- and by the wishes of one connection
+  pub wishes-kept : (judged : List JudgedWish)
+      → KeepsWishesTold telling tried moment left_since opens book.keeper keeper' book.log history judged
+      → KeepsWishesThere tells opens left path book.log history judged s s'
+  wishes-kept judged kept = record {
+    there = stand tells rows tried faults path book keeper' s m s' opened there-now others gains history is alike
+        (IsLostGroup judged history) (λ yes. (kept-so yes).lost);
+    stops = λ yes image may. (kept-so yes).since image
+        (let b = begins yes in
+        subst (λ (t : ℕ). left_since keeper' t image) (b.at ∙ sym (ap moment b.still)) (shut (so' ∙ yes) image may));
+  }
+    where
+      kept-so : IsTrue tells → KeepsWishes tried moment left_since opens book.keeper keeper' book.log history judged
+      kept-so yes =
+          let b = begins yes in
+          kept (ap telling b.still ∙ so ∙ yes) (ap tried b.still ∙ b.none) b.between
+
+-- what stands where a keeper was shut, by whether it tells what a stop leaves
+pub stands-by : (one other : Bool) → one ≡ other → (told : Option (List Row)) (tried : List (List Row))
+    (before there : Option (List Row)) → IfSome told (λ k. StandsAfter one k tried before there)
+    → IfSome told (λ k. StandsAfter other k tried before there)
+stands-by one other same told tried before there =
+    subst (λ (b : Bool). IfSome told (λ k. StandsAfter b k tried before there)) same

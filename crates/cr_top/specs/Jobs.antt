@@ -47,27 +47,27 @@ pub record IsCounted {I A B D : Type 0} (exit : Exit) (a a' : Surroundings I A B
 -- One connection from the empty history on, or from that of a store on; many connections over a store; the view of a
 -- store; or a drill. The last three read no input and ask no clock but those that doors give, and all but serving leave
 -- the gates alone. A drill has no store.
-abbrev pub DoesJob : {I K A B D : Type 0} → Bool → (List ℕ → Keeping) → (I → Option (List ℕ))
+abbrev pub DoesJob : {I K A B D : Type 0} → (List ℕ → Bool) → (List ℕ → Keeping) → (I → Option (List ℕ))
     → (I → I → List ℕ → Type 0) → Streams K A B D
     → NamedJob → Exit → Surroundings I A B D → Surroundings I A B D → Type 0
 DoesJob tells_stops keeps left gives streams (pipe_job None) exit a a' =
     ServesPipe left gives [] exit a.outside a'.outside × (a'.stores ≡ a.stores) × (a'.gates ≡ a.gates)
 DoesJob tells_stops keeps left gives streams (pipe_job (Some path)) exit a a' =
-    PipesStore tells_stops (keeps path) path left gives exit a.outside a'.outside a.stores a'.stores
+    PipesStore (tells_stops path) (keeps path) path left gives exit a.outside a'.outside a.stores a'.stores
     × (a'.gates ≡ a.gates)
 DoesJob tells_stops keeps left gives streams (serve_job listen workers connections path) exit a a' =
-    ServesGates tells_stops (keeps path) path streams listen workers connections exit a.outside.output
+    ServesGates (tells_stops path) (keeps path) path streams listen workers connections exit a.outside.output
     a'.outside.output a.stores a'.stores a.gates a'.gates
     × ReadsNothing a.outside a'.outside
 DoesJob tells_stops keeps left gives streams (view_job path name) exit a a' =
-    TellsStore tells_stops path name exit a.outside.output a'.outside.output a.stores a'.stores
+    TellsStore (tells_stops path) path name exit a.outside.output a'.outside.output a.stores a'.stores
     × ReadsNothing a.outside a'.outside × (a'.gates ≡ a.gates)
 DoesJob tells_stops keeps left gives streams (drill_job seed steps) exit a a' =
     TellsDrill seed steps exit a.outside.output a'.outside.output × (a'.stores ≡ a.stores)
     × ReadsNothing a.outside a'.outside × (a'.gates ≡ a.gates)
 
 -- the same, unless memory ran out before it began
-abbrev pub Does : {I K A B D : Type 0} → Bool → (List ℕ → Keeping) → (I → Option (List ℕ))
+abbrev pub Does : {I K A B D : Type 0} → (List ℕ → Bool) → (List ℕ → Keeping) → (I → Option (List ℕ))
     → (I → I → List ℕ → Type 0) → Streams K A B D
     → NamedJob → Exit → Surroundings I A B D → Surroundings I A B D → Type 0
 Does tells_stops keeps left gives streams job exit a a' =

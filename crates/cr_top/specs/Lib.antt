@@ -6,3 +6,4 @@ pub mod Runs
 pub mod Stores
 pub mod Serves
 pub mod Jobs
+pub mod Program

@@ -18,7 +18,7 @@ use Rattle.cr_session.specs.declared.serve.Ending.{Ending}
 use Rattle.cr_session.specs.Answering.{ClockState, Desk, GivesAnswers, clock_of}
 use Rattle.cr_session.specs.Replay.{JudgedWish, Ledger, lost_count}
 use Rattle.cr_session.specs.Serving.{World, ConnectionBytes, WholeBytes}
-use Rattle.cr_session.specs.Stopping.{KeepsWishes}
+use Rattle.cr_session.specs.Stopping.{KeepsWishesTold}
 use Rattle.cr_ports.specs.Writing.{Outlet, outlet_of, Writes, BreaksOff}
 use Rattle.cr_top.specs.declared.exit.Exit.{Exit}
 use Rattle.cr_top.specs.declared.exit.Exit.TheVariants as exits
@@ -67,11 +67,11 @@ abbrev pub Keeps : Type 1
 Keeps = History → List JudgedWish → Type 0
 
 -- what a stop may leave of the keeper of this book since that was opened, and since one connection was served over it
-abbrev pub KeepsSince : {K : Type 0} → Bool → (K → Option (List Row)) → (K → List (List Row)) → (K → ℕ)
+abbrev pub KeepsSince : {K : Type 0} → (K → Bool) → (K → Option (List Row)) → (K → List (List Row)) → (K → ℕ)
     → (K → ℕ → List ℕ → Type 0) → (List ℕ → List Row → Type 0) → SeenBook K → K → Keeps
 KeepsSince tells rows tried moment left_since opens book keeper' history judged =
     KeepsTold rows tried moment left_since opens tells book.opened keeper' history
-    × KeepsWishes tells tried moment left_since opens book.keeper keeper' book.log judged
+    × KeepsWishesTold tells tried moment left_since opens book.keeper keeper' book.log history judged
 
 -- From this history on, whose rows the keeper had, a connection was served to its ending, and the keeper was handed
 -- back with the rows of the last history, of which something is so besides.

@@ -21,7 +21,7 @@ use Rattle.cr_workers.specs.declared.worked.Worked.TheVariants as worked
 use Rattle.cr_top.specs.declared.exit.Exit.{Exit}
 use Rattle.cr_top.specs.declared.exit.Exit.TheVariants as exits
 use Rattle.cr_top.specs.Exits.{exit_of_workers}
-use Rattle.cr_top.specs.Stores.{Keeping, KeepsRows, ShelfState, StaysShut}
+use Rattle.cr_top.specs.Stores.{Keeping, KeepsRows, LeavesExactly, ShelfState, StaysShut}
 
 -- gates: their count of faults; what the doors that were shut last did, and at which addresses doors were asked for,
 -- where they tell it
@@ -123,6 +123,9 @@ pub record ServesMany {K I O C : Type 0} (keeps : Keeping) (path : List ℕ) (st
   pub leaves : keeps.store opening history s s'
   pub counted : Gains s.faults faults s'.faults
   pub lost : Gains s.faults (lost_in streams opening history (connections_of serves.works) serves.served) s'.faults
+  -- Where none was, the rows are those of the last history and no more.
+  pub exact : lost_in streams opening history (connections_of serves.works) serves.served ≡ 0
+      → LeavesExactly path history s s'
   pub asked : g'.asked ≡ and_asked g.asked listen
   -- the gates tell what each door did, and count its faults
   pub told : IfSome g'.logs (λ logs. AreDoorsTold ended serves.works logs)

@@ -1,6 +1,6 @@
 -- What a run does with the rows of a store: it opens them as a history, or tells why they don't open, and
 -- leaves the rows of the last history.
-use Rattle.std.specs.Prelude.{◌≡◌, ◌≢◌, ◌≤◌, ◌⊎◌, ℕ, Bool, List, [], ◌++◌, Option, Some, None, is_some, IfSome, IsTrue}
+use Rattle.std.specs.Prelude.{◌≡◌, ◌≢◌, ◌≤◌, ◌⊎◌, ℕ, Bool, List, [], ◌++◌, Option, Some, None, IfSome, IsTrue}
 use Rattle.cr_base.specs.declared.row.Row.{Row}
 use Rattle.cr_base.specs.History.{History}
 use Rattle.cr_base.specs.HistoryFacts.{number_of}
@@ -16,8 +16,8 @@ use Rattle.cr_sights.specs.Walks.{StopsShort}
 use Rattle.cr_book.specs.Opening.{IsBadAt}
 use Rattle.cr_book.specs.Seen.{SeenBook}
 use Rattle.cr_book.specs.Stopping.{AddsOne, OpensAmid}
-use Rattle.cr_session.specs.Replay.{JudgedWish}
-use Rattle.cr_session.specs.Stopping.{OpensBehind}
+use Rattle.cr_session.specs.Replay.{JudgedWish, lost_count}
+use Rattle.cr_session.specs.Stopping.{IsLostGroup, OpensBehind}
 use Rattle.cr_session.specs.declared.serve.Ending.{Ending}
 use Rattle.cr_session.specs.Serving.{ConnectionBytes, WholeBytes}
 use Rattle.cr_top.specs.declared.exit.Exit.{Exit}
@@ -37,10 +37,6 @@ pub record ShelfState : Type 0 where
 abbrev pub state_of : {S : Type 0} → (S → RowsByPath) → (S → ℕ) → S → ShelfState
 state_of rows faults shelf = record { rows = rows shelf; faults = faults shelf }
 
--- every keeper of the shelf's kind tells its rows
-abbrev pub TellsRows : {K : Type 0} → (K → Option (List Row)) → Type 0
-TellsRows {K} rows = (keeper : K) → IsTrue (is_some (rows keeper))
-
 -- the rows at every path are as they were, where they were told
 abbrev pub KeepsRows : ShelfState → ShelfState → Type 0
 KeepsRows s s' = (path : List ℕ) → IfSome (s.rows path) (λ there. s'.rows path ≡ Some there)
@@ -59,6 +55,7 @@ pub record OpensStore {K : Type 0} (rows : K → Option (List Row)) (faults : K 
   pub found : IfSome (s.rows path) (λ there. rows_of book.log ≡ there)
   pub only : IfSome (s.rows path) (λ there. (H : History) → Legal H → rows_of H ≡ there → H ≡ book.log)
   pub told : IfSome (s.rows path) (λ there. rows book.keeper ≡ Some there)
+  pub still : rows book.keeper ≡ rows book.opened
   pub fresh : faults book.keeper ≡ 0
   pub same : s' ≡ s
 
@@ -105,12 +102,22 @@ pub record StaysShut (tells_stops : Bool) (path : List ℕ) (exit : Exit) (s s' 
 -- ---- what a run leaves
 
 -- The rows of a history stand at the path, where they were told, once its keeper was shut; or, of one that tells what a
--- stop leaves, these and then those of one command or bulk that is allowed behind it. At each other path stands what
--- stood there.
+-- stop leaves, these and then those of one group that wasn't kept, of which more is so.
+abbrev pub StandOrOneMore : Bool → List ℕ → History → (History → Type 0) → ShelfState → ShelfState → Type 0
+StandOrOneMore tells_stops path history IsLost s s' =
+    IfSome (s.rows path) (λ before. (s'.rows path ≡ Some (rows_of history))
+    ⊎ (IsTrue tells_stops
+    × ((group : History) × IsLost group × (s'.rows path ≡ Some (rows_of (history ++ group))))))
+
+-- The group of a command or a bulk that is allowed behind a history, over a shelf whose count of faults rose.
+pub record IsGroupInVain (history : History) (s s' : ShelfState) (group : History) : Type 0 where
+  pub adds : AddsOne history group
+  pub counted : Rises s.faults s'.faults
+
+-- So where the shelf's count doesn't rise, the rows at the path are those of the history. At each other path stands
+-- what stood there.
 pub record LeavesRows (tells_stops : Bool) (path : List ℕ) (history : History) (s s' : ShelfState) : Type 0 where
-  pub there : IfSome (s.rows path) (λ before. (s'.rows path ≡ Some (rows_of history))
-      ⊎ (IsTrue tells_stops
-      × ((group : History) × AddsOne history group × (s'.rows path ≡ Some (rows_of (history ++ group))))))
+  pub there : StandOrOneMore tells_stops path history (IsGroupInVain history s s') s s'
   pub others : KeepsOthers path s s'
 
 -- Where the keepers tell what a stop of the machine may leave, what one since the store was opened
@@ -129,26 +136,35 @@ CrashKeepsWishes tells opens left opening judged =
     IsTrue tells → (image : List ℕ) → left image → OpensBehind opens opening judged image
 
 -- What a run keeps at a path between these two states of a shelf, from its opening history to its last: the rows, where
--- the keepers tell theirs; and what a stop may leave, where they tell that.
-pub record KeepsStore {K : Type 0} (rows : K → Option (List Row)) (tells_stops : Bool)
-    (opens : List ℕ → List Row → Type 0) (left : List ℕ → List ℕ → Type 0) (path : List ℕ)
-    (opening history : History) (s s' : ShelfState) : Type 0 where
-  pub kept : TellsRows rows → LeavesRows tells_stops path history s s'
+-- they are told; and what a stop may leave, where the path's keepers tell that.
+pub record KeepsStore (tells_stops : Bool) (opens : List ℕ → List Row → Type 0) (left : List ℕ → List ℕ → Type 0)
+    (path : List ℕ) (opening history : History) (s s' : ShelfState) : Type 0 where
+  pub kept : LeavesRows tells_stops path history s s'
   pub stops : CrashKeepsGroups tells_stops opens (left path) opening history
 
--- what a run keeps from an opening history to its last, between two states of a shelf; and from the opening one on by
--- the wishes of one connection
+-- The same by the wishes of its one connection: a group behind the rows is that of one of them which was answered, on
+-- the last history, that it wasn't kept.
+pub record KeepsWishesThere (tells_stops : Bool) (opens : List ℕ → List Row → Type 0) (left : List ℕ → List ℕ → Type 0)
+    (path : List ℕ) (opening history : History) (judged : List JudgedWish) (s s' : ShelfState) : Type 0 where
+  pub there : StandOrOneMore tells_stops path history (IsLostGroup judged history) s s'
+  pub stops : CrashKeepsWishes tells_stops opens (left path) opening judged
+
+-- what a run keeps from an opening history to its last, between two states of a shelf; and that by the wishes of one
+-- connection
 pub record Keeping : Type 1 where
   pub store : History → History → ShelfState → ShelfState → Type 0
-  pub wishes : History → List JudgedWish → Type 0
+  pub wishes : History → History → List JudgedWish → ShelfState → ShelfState → Type 0
 
--- at each path, over keepers of one kind
-abbrev pub keeping_of : {K : Type 0} → (K → Option (List Row)) → Bool → (List ℕ → List Row → Type 0)
-    → (List ℕ → List ℕ → Type 0) → List ℕ → Keeping
-keeping_of rows tells_stops opens left path = record {
-  store = KeepsStore rows tells_stops opens left path;
-  wishes = CrashKeepsWishes tells_stops opens (left path);
+-- at each path, by whether its keepers tell what a stop may leave
+abbrev pub keeping_of : (List ℕ → Bool) → (List ℕ → List Row → Type 0) → (List ℕ → List ℕ → Type 0) → List ℕ → Keeping
+keeping_of tells_stops opens left path = record {
+  store = KeepsStore (tells_stops path) opens left path;
+  wishes = KeepsWishesThere (tells_stops path) opens left path;
 }
+
+-- the rows of a history and no more, where they were told
+abbrev pub LeavesExactly : List ℕ → History → ShelfState → ShelfState → Type 0
+LeavesExactly path history s s' = IfSome (s.rows path) (λ before. s'.rows path ≡ Some (rows_of history))
 
 -- ---- one connection over a store
 
@@ -168,8 +184,12 @@ pub record ServesStore {I : Type 0} (keeps : Keeping) (path : List ℕ) (left : 
   pub whole : (b : List ℕ) → left o.input ≡ Some b
       → WholeBytes left ending b (world o opening 0) (world o' history faults)
   pub leaves : keeps.store opening history s s'
-  pub stops : keeps.wishes opening (connection.answered ++ listed connection.failed)
+  pub wishes : keeps.wishes opening history (connection.answered ++ listed connection.failed) s s'
   pub counted : Gains s.faults faults s'.faults
+  -- by as many at least as wishes were answered that they weren't kept, its last value aside
+  pub lost : Gains s.faults (lost_count (connection.answered ++ listed connection.failed)) s'.faults
+  -- where none was, the rows are those of the last history and no more
+  pub exact : lost_count (connection.answered ++ listed connection.failed) ≡ 0 → LeavesExactly path history s s'
 
 -- a store that doesn't open leaves input and output as they were
 abbrev pub PipesStore : {I : Type 0} → Bool → Keeping → List ℕ → (I → Option (List ℕ)) → (I → I → List ℕ → Type 0)

@@ -6,6 +6,7 @@
 
 mod drilled;
 mod exit;
+mod laws;
 mod piping;
 mod run;
 mod serve;
@@ -14,8 +15,9 @@ mod viewing;
 
 pub use drilled::drill;
 pub use exit::{Exit, exit_of};
+pub use laws::law_exact_rows;
 pub use piping::pipe;
-pub use run::{run_top, top};
+pub use run::top;
 pub use serve::{Address, serve_store};
 pub use storing::pipe_store;
 pub use viewing::view_store;

@@ -1,5 +1,6 @@
 //! One connection, from the history of a book on.
-ghost use Rattle.std.specs.Prelude.{◌≡◌, ◌⊎◌, ℕ, List, Some};
+ghost use Rattle.std.specs.Prelude.{◌≡◌, ◌⊎◌, ℕ, List, Some, IsTrue};
+ghost use Rattle.cr_book.specs.Stopping.{CountsTried};
 ghost use Rattle.cr_ports.specs.Count.{Rises};
 ghost use Rattle.cr_top.specs.declared.exit.Exit.{Exit};
 ghost use Rattle.cr_top.specs.Exits.{exit_of};
@@ -32,6 +33,9 @@ pub fn pipe<R: Wait, K: Keeper, I: Source, O: Sink, C: Clock>(
         let keeps = KeepsSince K.tells_stops K.rows K.tried K.moment K.left_since K.opens book result.1 in
         Pipes K.rows keeps K.faults I.left I.read_gives book.log result.0 book.keeper result.1
         (outside input.old out.old clock.old) (outside input.new out.new clock.new) }
+
+    ensures alike { K.kind result.1 ≡ K.kind book.opened }
+    ensures counted { IsTrue (K.tells_stops result.1) → CountsTried K.faults K.tried book.opened result.1 }
 
     // Where nothing fails, the keeper's calls included, all that the input's bytes spell is answered,
     // or memory runs out.

@@ -6,6 +6,7 @@ ghost use Rattle.cr_session.specs.Tries.{tries_of};
 ghost use Rattle.cr_workers.specs.Connections.{streams_of};
 ghost use Rattle.cr_words.specs.Usage.{usage};
 ghost use Rattle.cr_top.specs.Jobs.{AnswersJob, Does, IsCounted, IsUntouched, around_of};
+ghost use Rattle.cr_top.specs.Program.{RunsProgram};
 ghost use Rattle.cr_top.specs.Runs.{TellsUsage};
 ghost use Rattle.cr_top.specs.Stores.{keeping_of};
 ghost use Rattle.cr_top.specs.Words.{AreFor, AreRefused, PassTest};
@@ -51,10 +52,10 @@ fn do_job<R: Threads + Wait + Sync, I: Source, O: Sink, S: Shelf, G: Gates, C: C
     requires { IsInRange (job_seen job) }
     ensures does { let around = around_of I.faults O.taken O.faults C.coming C.faults S.rows S.faults G.faults G.logs
         G.asked in
-        let keeps = keeping_of S.Keeper.rows S.Keeper.tells_stops S.Keeper.opens (S.left shelf.new) in
+        let keeps = keeping_of (S.tells_stops shelf.old) S.Keeper.opens (S.left shelf.new) in
         let tries = tries_of S.Keeper.tells_stops S.Keeper.rows S.Keeper.tried S.Keeper.moment S.Keeper.left_since
         S.Keeper.opens in
-        Does S.Keeper.tells_stops keeps I.left I.read_gives
+        Does (S.tells_stops shelf.old) keeps I.left I.read_gives
         (streams_of tries G.Door.In.left G.Door.In.read_gives G.Door.In.faults G.Door.Out.taken G.Door.Out.faults
         G.Door.Clock.coming G.Door.Clock.faults)
         (job_seen job.entry) result (around input.old out.old shelf.old gates.old clock.old)
@@ -96,29 +97,8 @@ fn do_job<R: Threads + Wait + Sync, I: Source, O: Sink, S: Shelf, G: Gates, C: C
     }
 }
 
-/// Does what the words ask for, the first of which is the program's name. `pipe` serves one connection over `input` and
-/// `out`, at the moments that `clock` gives, from the empty history on, whose rows it keeps in memory, or from the
-/// history of the rows of a store on, which are those of the last history when it ends. `serve` serves many
-/// connections, which the gates' doors give with a clock each, from the history of a store's rows on: however their
-/// turns interleave, there is one history. `view` prints what a user sees of a store's history. `drill` makes up
-/// commands from a number, gives them to a book in memory, and prints what they come to.
-///
-/// - `Done` comes only where the connection's ending is `Clean` or `Closed`, each door gave its share and
-///   no connection ended for lack of memory, or the view or the drill's summary was printed; `Cut`
-///   exactly where the ending is `Cut`.
-/// - `Usage` comes exactly where `clap` refuses the words, a call for help included, unless memory is
-///   wanting or the usage line can't be written. Then nothing is read.
-/// - `BadStore` comes exactly where the store's rows don't open as a legal history, and `KeeperFault` only
-///   where the count of `shelf` rose in this call, or stands at its last value. Then nothing is read and
-///   nothing written, and no gate asked.
-/// - `ListenFault` comes only where the count of `gates` rose in this call, or stands at its last value. Where they
-///   weren't opened, nothing is written.
-/// - `NoUser` comes exactly where `view` opened its store and nobody there has registered the name.
-/// - `ReadFault`, `WriteFault` and `ClockFault` come only where the count of `input`, of `out`, of `clock` rose in this
-///   call, or stands at its last value. `ClockFault` comes exactly where the ending of `pipe`'s connection is that;
-///   where the clock of one of `serve`'s connections fails, that connection alone ends by it.
-/// - `OutOfMemory` comes for lack of memory alone.
-pub fn top<R: Threads + Wait + Sync, I: Source, O: Sink, S: Shelf, G: Gates, C: Clock>(
+/// The same as `top`, clause by clause.
+fn run_words<R: Threads + Wait + Sync, I: Source, O: Sink, S: Shelf, G: Gates, C: Clock>(
     rt: &R,
     alloc: Global,
     words: &[String],
@@ -132,11 +112,11 @@ pub fn top<R: Threads + Wait + Sync, I: Source, O: Sink, S: Shelf, G: Gates, C: 
     // told, each on the caller's view of the one history at its turn's place; or a user's view; or a drill's summary.
     ensures does { let around = around_of I.faults O.taken O.faults C.coming C.faults S.rows S.faults G.faults G.logs
         G.asked in
-        let keeps = keeping_of S.Keeper.rows S.Keeper.tells_stops S.Keeper.opens (S.left shelf.new) in
+        let keeps = keeping_of (S.tells_stops shelf.old) S.Keeper.opens (S.left shelf.new) in
         let tries = tries_of S.Keeper.tells_stops S.Keeper.rows S.Keeper.tried S.Keeper.moment S.Keeper.left_since
         S.Keeper.opens in
         (job : NamedJob) → AreFor words.now job
-        → Does S.Keeper.tells_stops keeps I.left I.read_gives
+        → Does (S.tells_stops shelf.old) keeps I.left I.read_gives
         (streams_of tries G.Door.In.left G.Door.In.read_gives G.Door.In.faults G.Door.Out.taken G.Door.Out.faults
         G.Door.Clock.coming G.Door.Clock.faults)
         job result (around input.old out.old shelf.old gates.old clock.old)
@@ -173,9 +153,29 @@ pub fn top<R: Threads + Wait + Sync, I: Source, O: Sink, S: Shelf, G: Gates, C: 
     }
 }
 
-/// Does what `top` does, and promises nothing of its own: what is said of a run is said of `top`. It is for callers
-/// that state nothing of one, so that `top`'s clauses aren't read again at each of their types.
-pub fn run_top<R: Threads + Wait + Sync, I: Source, O: Sink, S: Shelf, G: Gates, C: Clock>(
+/// Does what the words ask for, the first of which is the program's name. `pipe` serves one connection over `input` and
+/// `out`, at the moments that `clock` gives, from the empty history on, whose rows it keeps in memory, or from the
+/// history of the rows of a store on, which are those of the last history when it ends. `serve` serves many
+/// connections, which the gates' doors give with a clock each, from the history of a store's rows on: however their
+/// turns interleave, there is one history. `view` prints what a user sees of a store's history. `drill` makes up
+/// commands from a number, gives them to a book in memory, and prints what they come to.
+///
+/// - `Done` comes only where the connection's ending is `Clean` or `Closed`, each door gave its share and
+///   no connection ended for lack of memory, or the view or the drill's summary was printed; `Cut`
+///   exactly where the ending is `Cut`.
+/// - `Usage` comes exactly where `clap` refuses the words, a call for help included, unless memory is
+///   wanting or the usage line can't be written. Then nothing is read.
+/// - `BadStore` comes exactly where the store's rows don't open as a legal history, and `KeeperFault` only
+///   where the count of `shelf` rose in this call, or stands at its last value. Then nothing is read and
+///   nothing written, and no gate asked.
+/// - `ListenFault` comes only where the count of `gates` rose in this call, or stands at its last value. Where they
+///   weren't opened, nothing is written.
+/// - `NoUser` comes exactly where `view` opened its store and nobody there has registered the name.
+/// - `ReadFault`, `WriteFault` and `ClockFault` come only where the count of `input`, of `out`, of `clock` rose in this
+///   call, or stands at its last value. `ClockFault` comes exactly where the ending of `pipe`'s connection is that;
+///   where the clock of one of `serve`'s connections fails, that connection alone ends by it.
+/// - `OutOfMemory` comes for lack of memory alone.
+pub fn top<R: Threads + Wait + Sync, I: Source, O: Sink, S: Shelf, G: Gates, C: Clock>(
     rt: &R,
     alloc: Global,
     words: &[String],
@@ -184,6 +184,18 @@ pub fn run_top<R: Threads + Wait + Sync, I: Source, O: Sink, S: Shelf, G: Gates,
     shelf: &mut S,
     gates: &mut G,
     clock: &mut C,
-) -> Exit {
-    top(rt, alloc, words, input, out, shelf, gates, clock)
+) -> Exit
+    ensures { let around = around_of I.faults O.taken O.faults C.coming C.faults S.rows S.faults G.faults G.logs
+        G.asked in
+        let keeps = keeping_of (S.tells_stops shelf.old) S.Keeper.opens (S.left shelf.new) in
+        let tries = tries_of S.Keeper.tells_stops S.Keeper.rows S.Keeper.tried S.Keeper.moment S.Keeper.left_since
+        S.Keeper.opens in
+        RunsProgram words.now (S.tells_stops shelf.old) keeps I.left I.read_gives
+        (streams_of tries G.Door.In.left G.Door.In.read_gives G.Door.In.faults G.Door.Out.taken G.Door.Out.faults
+        G.Door.Clock.coming G.Door.Clock.faults)
+        ((shelf.new ≡ shelf.old) × (gates.new ≡ gates.old))
+        result (around input.old out.old shelf.old gates.old clock.old)
+        (around input.new out.new shelf.new gates.new clock.new) }
+{
+    run_words(rt, alloc, words, input, out, shelf, gates, clock)
 }

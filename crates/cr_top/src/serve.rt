@@ -1,6 +1,6 @@
 //! Many connections over a store.
 ghost use Rattle.std.specs.Prelude.{◌≡◌, ◌≢◌, ◌⊎◌, ◌≤◌, ◌*◌, ◌^◌, ℕ, List, length, map, Some, is_ok, IfOk, IfErr};
-ghost use Rattle.std.specs.Prelude.{IsTrue};
+ghost use Rattle.std.specs.Prelude.{Bool, IsTrue};
 ghost use Rattle.cr_base.specs.History.{History};
 ghost use Rattle.cr_base.specs.Rows.{rows_of};
 ghost use Rattle.cr_policy.specs.Legal.{Legal};
@@ -93,19 +93,19 @@ fn serve_open_book<R: Threads + Wait + Sync, S: Shelf, G: Gates, O: Sink>(
     requires at_most { length doors.items ≤ 64 }
     requires few { turns_for (total G.Door.left doors.items) ≤ 2 ^ 40 }
     requires new { AreNew (door_of G.Door.left G.Door.is_out G.Door.faults G.Door.log) doors.items }
-    requires open { S.has_opened shelf.old path.now }
+    requires open { S.has_opened shelf.old path.now (S.Keeper.kind book.opened) }
     ensures { let outlet = outlet_of O.taken O.faults in let stores = state_of S.rows S.faults in
         let gates_at = gates_of G.faults G.logs G.asked in
-        let keeps = keeping_of S.Keeper.rows S.Keeper.tells_stops S.Keeper.opens (S.left shelf.new) path.now in
         let tries = tries_of S.Keeper.tells_stops S.Keeper.rows S.Keeper.tried S.Keeper.moment S.Keeper.left_since
         S.Keeper.opens in
-        (s : ShelfState) → OpensStore S.Keeper.rows S.Keeper.faults path.now book s (stores shelf.old)
+        (tells : List ℕ → Bool) → S.Keeper.tells_stops book.opened ≡ tells path.now
+        → (s : ShelfState) → OpensStore S.Keeper.rows S.Keeper.faults path.now book s (stores shelf.old)
         → (g : GatesState G.Door.In G.Door.Out G.Door.Clock) → (listen : List ℕ) → OpensAt listen g (gates_at gates.old)
         → (workers connections : ℕ) → map G.Door.left doors.items ≡ shares workers connections
-        → (IsTrue S.Keeper.tells_stops
+        → (IsTrue (tells path.now)
         → BeginsAt S.Keeper.rows S.Keeper.tried S.Keeper.moment S.Keeper.left_since S.Keeper.opens
-        (S.opened_at shelf.old) book)
-        → ServesMany keeps path.now
+        (S.opened_at shelf.old path.now) book)
+        → ServesMany (keeping_of tells S.Keeper.opens (S.left shelf.new) path.now) path.now
         (streams_of tries G.Door.In.left G.Door.In.read_gives G.Door.In.faults G.Door.Out.taken G.Door.Out.faults
         G.Door.Clock.coming G.Door.Clock.faults)
         listen workers connections result (outlet out.old) (outlet out.new) s (stores shelf.new)
@@ -135,10 +135,10 @@ pub fn serve_store<R: Threads + Wait + Sync, S: Shelf, G: Gates, O: Sink>(
     requires connections { (1 ≤ address.connections) × (address.connections ≤ 65536) }
     ensures serves { let outlet = outlet_of O.taken O.faults in let stores = state_of S.rows S.faults in
         let gates_at = gates_of G.faults G.logs G.asked in
-        let keeps = keeping_of S.Keeper.rows S.Keeper.tells_stops S.Keeper.opens (S.left shelf.new) path.now in
+        let keeps = keeping_of (S.tells_stops shelf.old) S.Keeper.opens (S.left shelf.new) path.now in
         let tries = tries_of S.Keeper.tells_stops S.Keeper.rows S.Keeper.tried S.Keeper.moment S.Keeper.left_since
         S.Keeper.opens in
-        ServesGates S.Keeper.tells_stops keeps path.now
+        ServesGates (S.tells_stops shelf.old path.now) keeps path.now
         (streams_of tries G.Door.In.left G.Door.In.read_gives G.Door.In.faults G.Door.Out.taken G.Door.Out.faults
         G.Door.Clock.coming G.Door.Clock.faults)
         address.entry.listen.now address.entry.workers address.entry.connections result

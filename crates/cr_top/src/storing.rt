@@ -1,5 +1,5 @@
 //! Jobs on a store: its rows are opened as a book, worked on, and shut.
-ghost use Rattle.std.specs.Prelude.{◌≡◌, ◌≢◌, ◌⊎◌, ℕ, List, Some, IfErr, IfOk, IsTrue, OnOk};
+ghost use Rattle.std.specs.Prelude.{◌≡◌, ◌≢◌, ◌⊎◌, ℕ, List, Some, IfErr, IfOk, IsTrue};
 ghost use Rattle.cr_base.specs.History.{History};
 ghost use Rattle.cr_base.specs.Rows.{rows_of};
 ghost use Rattle.cr_policy.specs.Legal.{Legal};
@@ -49,12 +49,14 @@ pub(crate) fn open_store<S: Shelf>(
     ensures opened { let stores = state_of S.rows S.faults in
         IfOk result (λ book. OpensStore S.Keeper.rows S.Keeper.faults path.now book
         (stores shelf.old) (stores shelf.new)) }
-    ensures begins { IsTrue S.Keeper.tells_stops → IfOk result
+    ensures telling { IfOk result
+        (λ book. S.Keeper.tells_stops book.opened ≡ S.tells_stops shelf.old path.now) }
+    ensures begins { IsTrue (S.tells_stops shelf.old path.now) → IfOk result
         (λ book. BeginsAt S.Keeper.rows S.Keeper.tried S.Keeper.moment S.Keeper.left_since S.Keeper.opens
-        (S.opened_at shelf.new) book) }
-    ensures open { OnOk result (S.has_opened shelf.new path.now) }
+        (S.opened_at shelf.new path.now) book) }
+    ensures open { IfOk result (λ book. S.has_opened shelf.new path.now (S.Keeper.kind book.opened)) }
     ensures refused { IfErr result
-        (λ exit. StaysShut S.Keeper.tells_stops path.now exit (state_of S.rows S.faults shelf.old)
+        (λ exit. StaysShut (S.tells_stops shelf.old path.now) path.now exit (state_of S.rows S.faults shelf.old)
         (state_of S.rows S.faults shelf.new)) }
 {
     let keeper = match shelf.open(path) {
@@ -87,8 +89,8 @@ pub fn pipe_store<R: Wait, S: Shelf, I: Source, O: Sink, C: Clock>(
 ) -> Exit
     ensures pipes { let outside = outside_of I.faults O.taken O.faults C.coming C.faults in
         let stores = state_of S.rows S.faults in
-        let keeps = keeping_of S.Keeper.rows S.Keeper.tells_stops S.Keeper.opens (S.left shelf.new) path.now in
-        PipesStore S.Keeper.tells_stops keeps path.now I.left I.read_gives result
+        let keeps = keeping_of (S.tells_stops shelf.old) S.Keeper.opens (S.left shelf.new) path.now in
+        PipesStore (S.tells_stops shelf.old path.now) keeps path.now I.left I.read_gives result
         (outside input.old out.old clock.old) (outside input.new out.new clock.new)
         (stores shelf.old) (stores shelf.new) }
 

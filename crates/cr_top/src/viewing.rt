@@ -57,7 +57,7 @@ pub fn view_store<S: Shelf, O: Sink>(
     shelf: &mut S,
 ) -> Exit
     ensures views { let outlet = outlet_of O.taken O.faults in let stores = state_of S.rows S.faults in
-        TellsStore S.Keeper.tells_stops path.now name.now result (outlet out.old) (outlet out.new)
+        TellsStore (S.tells_stops shelf.old path.now) path.now name.now result (outlet out.old) (outlet out.new)
         (stores shelf.old) (stores shelf.new) }
 
     // Where nothing fails and the rows are a legal history's, its view is told whole, or nobody has

@@ -1,10 +1,10 @@
 use Rattle.std.proofs.Common.{refl, ap, subst, sym, ◌∙◌, ◌++◌}
 use Rattle.cr_base.specs.Lists.{listed}
 use Rattle.cr_book.specs.Seen.{SeenBook}
-use Rattle.cr_book.specs.Stopping.{KeepsTold}
+use Rattle.cr_book.specs.Stopping.{CountsTried, KeepsTold}
 use Rattle.cr_lock.specs.Closing.{Closes}
 use Rattle.cr_session.specs.Passing.{KnownPass}
-use Rattle.cr_session.specs.Stopping.{KeepsWishes}
+use Rattle.cr_session.specs.Stopping.{KeepsWishesTold}
 use Rattle.cr_session.specs.Tries.{Tries, tries_of}
 use Rattle.cr_session.proofs.StopLaws.{wishes-none}
 use Rattle.cr_session.proofs.Stops.{stops-closed}
@@ -41,11 +41,11 @@ returns-in-Err-clause-pipes g c =
       subst (λ (b : SeenBook g.row.K.Denot). KeepsTold K.rows K.tried K.moment K.left_since K.opens K.tells_stops
           b.opened c.close.result c.in-Err.book.log) same
           c.close.ensures.stops,
-      subst (λ (k : g.row.K.Denot). KeepsWishes K.tells_stops K.tried K.moment K.left_since K.opens c.args.book.keeper k
-          c.args.book.log judged)
+      subst (λ (k : g.row.K.Denot). KeepsWishesTold K.tells_stops K.tried K.moment K.left_since K.opens
+          c.args.book.keeper k c.args.book.log c.in-Err.book.log judged)
           (sym (c.close.ensures.same ∙ ap (λ (b : SeenBook g.row.K.Denot). b.keeper) same))
           (wishes-none K.tells_stops K.rows K.tried K.moment K.left_since K.opens c.args.book.keeper c.args.book.log
-          judged),
+          c.in-Err.book.log judged),
     ))
 
 pub returns-clause-pipes : goal.returns-clause-pipes
@@ -74,8 +74,8 @@ returns-clause-pipes g c =
       subst (λ (k : g.row.K.Denot). KeepsTold K.rows K.tried K.moment K.left_since K.opens K.tells_stops k
           c.close-2.result x.log)
           (c.close-book.ensures.root ∙ ap (λ (b : SeenBook g.row.K.Denot). b.opened) made.0) c.close-2.ensures.stops,
-      subst (λ (k : g.row.K.Denot). KeepsWishes K.tells_stops K.tried K.moment K.left_since K.opens book.keeper k
-          book.log
+      subst (λ (k : g.row.K.Denot). KeepsWishesTold K.tells_stops K.tried K.moment K.left_since K.opens book.keeper k
+          book.log x.log
           (connection.answered ++ listed connection.failed))
           (sym c.close-2.ensures.same)
           (stops-closed K.tells_stops K.rows K.tried K.moment K.left_since K.opens
@@ -97,3 +97,26 @@ returns-clause-answers g c b left faultless idle =
     g.I.Source.read_gives c.args.book.log c.serve_connection-ending.result c.args.book.keeper
     c.close-2.result b o o'
     (returns-clause-pipes g c) left faultless idle
+
+-- ---- the keeper that is handed back
+
+pub returns-in-Err-clause-alike : goal.returns-in-Err-clause-alike
+returns-in-Err-clause-alike g c =
+    c.close.ensures.alike ∙ ap (λ (b : SeenBook g.row.K.Denot). g.K.Keeper.kind b.opened) c.in-Err.ensures
+
+pub returns-in-Err-clause-counted : goal.returns-in-Err-clause-counted
+returns-in-Err-clause-counted g c = λ told.
+    subst (λ (b : SeenBook g.row.K.Denot). CountsTried g.K.Keeper.faults g.K.Keeper.tried b.opened c.close.result)
+    c.in-Err.ensures (c.close.ensures.counted told)
+
+pub returns-clause-alike : goal.returns-clause-alike
+returns-clause-alike g c =
+    c.close-2.ensures.alike
+    ∙ ap g.K.Keeper.kind
+    (c.close-book.ensures.root ∙ ap (λ (b : SeenBook g.row.K.Denot). b.opened) c.in-Ok.ensures.0)
+
+pub returns-clause-counted : goal.returns-clause-counted
+returns-clause-counted g c = λ told.
+    subst (λ (k : g.row.K.Denot). CountsTried g.K.Keeper.faults g.K.Keeper.tried k c.close-2.result)
+    (c.close-book.ensures.root ∙ ap (λ (b : SeenBook g.row.K.Denot). b.opened) c.in-Ok.ensures.0)
+    (c.close-2.ensures.counted told)

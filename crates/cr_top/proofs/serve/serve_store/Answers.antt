@@ -1,9 +1,9 @@
-use Rattle.std.proofs.Common.{inr, inl, refl}
+use Rattle.std.proofs.Common.{◌∙◌, List, Bool, inr, inl, refl, subst, sym}
 use Rattle.cr_top.specs.Serves.{gates_of}
 use Rattle.cr_top.specs.Stores.{state_of}
 use Rattle.cr_top.proofs.Gated.{few-doors, few-turns, keeper-rises, listen-rises, never-asks, never-reads, never-usage}
 use Rattle.cr_top.proofs.Gated.{serves-or-memory, stays-closed, write-rises}
-use Rattle.cr_top.proofs.Stored.{none-tried}
+use Rattle.cr_top.proofs.Stored.{none-tried, stands-by}
 use Rattle.cr_top.proofs.serve.serve_store.Goals as goal
 
 pub serve_open_book-requires-clause-at_most : goal.serve_open_book-requires-clause-at_most
@@ -23,7 +23,8 @@ returns-in-Ok-open_gates-clause-serves g c =
     let stores = state_of g.S.Shelf.rows g.S.Shelf.faults in
     let gates_at = gates_of g.G.Gates.faults g.G.Gates.logs g.G.Gates.asked in
     inr
-    (inr (c.serve_open_book.ensures (stores c.args.shelf.now) c.in-Ok.ensures.opened (gates_at c.args.gates.now)
+    (inr (c.serve_open_book.ensures (g.S.Shelf.tells_stops c.args.shelf.now) c.in-Ok.ensures.telling
+    (stores c.args.shelf.now) c.in-Ok.ensures.opened (gates_at c.args.gates.now)
     c.args.address.listen.now
     (record {
       asked = c.in-Ok-open_gates.ensures.asked;
@@ -60,20 +61,30 @@ pub returns-in-Ok-open_gates-clause-listen_fault : goal.returns-in-Ok-open_gates
 returns-in-Ok-open_gates-clause-listen_fault g c =
     listen-rises _ _ _ _ _ _ _ _ _ _ _ _ _ _ (returns-in-Ok-open_gates-clause-serves g c)
 
+pub shut-requires : goal.shut-requires
+shut-requires g c =
+    subst (λ (kind : List Bool). g.S.Shelf.has_opened c.open_store.new.shelf c.args.path.now kind)
+    (sym c.close.ensures.alike) c.in-Ok.ensures.open
+
 pub returns-in-Err-open_gates-clause-serves : goal.returns-in-Err-open_gates-clause-serves
 returns-in-Err-open_gates-clause-serves g c =
     let K = g.S.Keeper.Keeper in
+    let path = c.args.path.now in
+    let tells = g.S.Shelf.tells_stops c.args.shelf.now path in
     let stores = state_of g.S.Shelf.rows g.S.Shelf.faults in
     let gates_at = gates_of g.G.Gates.faults g.G.Gates.logs g.G.Gates.asked in
+    let so' = K.tells_alike c.close.result c.in-Ok.book.opened c.close.ensures.alike ∙ c.in-Ok.ensures.telling in
     inr (inl (
-      stays-closed K.tells_stops K.rows K.tried K.faults c.args.path.now c.args.address.listen.now
+      stays-closed tells K.rows K.tried K.faults path c.args.address.listen.now
           c.in-Err-open_gates.exit c.in-Ok.book c.close.result
           (stores c.args.shelf.now) (stores c.open_store.new.shelf) (stores c.shut.new.self) (gates_at c.args.gates.now)
           (gates_at c.open_gates.new.gates)
           c.in-Ok.ensures.opened c.close.ensures.same
-          (none-tried K.tells_stops K.rows K.tried K.moment K.left_since K.opens _ c.in-Ok.book c.close.result
+          (none-tried tells K.rows K.tried K.moment K.left_since K.opens _ c.in-Ok.book c.close.result
           c.in-Ok.ensures.begins c.close.ensures.same)
-          c.shut.ensures.kept c.shut.ensures.others c.shut.ensures.count c.in-Err-open_gates.ensures.refused.0
+          (stands-by (K.tells_stops c.close.result) tells so' (K.rows c.close.result) (K.tried c.close.result)
+          (g.S.Shelf.rows c.open_store.new.shelf path) (g.S.Shelf.rows c.shut.new.self path) c.shut.ensures.kept)
+          c.shut.ensures.others c.shut.ensures.count c.in-Err-open_gates.ensures.refused.0
           c.in-Err-open_gates.ensures.refused.1 c.in-Err-open_gates.ensures.other,
       refl,
     ))
