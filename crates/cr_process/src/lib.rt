@@ -8,11 +8,12 @@
 ghost use Rattle.std.specs.Prelude.{◌≡◌};
 ghost use Rattle.std.specs.Process as ended;
 ghost use Rattle.cr_top.specs.Exits.{exit_status};
+ghost use Rattle.cr_top.specs.declared.exit.Exit.{Exit};
 
-use cr_net::{Reason, TcpGates};
+use cr_net::TcpGates;
 use cr_ports::{ReadSource, SystemClock, WriteSink};
-use cr_stores::FileShelf;
-use cr_top::{Exit, run_top};
+use cr_stores::{FileShelf, file_shelf, reason};
+use cr_top::{Exit, top};
 use cr_words::{Job, read_words};
 use std::alloc::{AllocError, Global};
 use std::env;
@@ -52,7 +53,7 @@ fn tell(
     words: &[String],
     exit: Exit,
     shelf: &FileShelf,
-    closed: Option<Reason>,
+    closed: Option<cr_net::Reason>,
 ) -> io::Result<()> {
     let Named { store, address } = names_in(rt.alloc(), words);
     match exit {
@@ -66,7 +67,7 @@ fn tell(
         }
         Exit::ReadFault => eprintln!(rt; "confd: the input could not be read"),
         Exit::WriteFault => eprintln!(rt; "confd: the output could not be written"),
-        Exit::KeeperFault => match shelf.reason(store) {
+        Exit::KeeperFault => match reason(shelf, store) {
             Some(reason) => eprintln!(rt; "confd: {store}: {reason}"),
             None => eprintln!(rt; "confd: {store}: the store could not be read"),
         },
@@ -89,17 +90,19 @@ fn status_of(exit: Exit) -> ExitCode
 
 /// Does what the command line asks for, and gives the status that the process is to end with. `handle` is the same
 /// runtime, as one that may wait: a library can't tell that of `rt`.
-pub fn run<R: Threads + Wait + Sync>(rt: &HostRuntime, handle: &R) -> ExitCode {
+pub fn run<R: Threads + Wait + Sync>(rt: &HostRuntime, handle: &R) -> ExitCode
+    ensures { (exit : Exit) × (ended.exit_status result ≡ exit_status exit) }
+{
     let mut input = ReadSource::new(rt.stdin());
     let mut out = WriteSink::new(rt.stdout());
-    let mut shelf = FileShelf::new(rt);
+    let mut shelf = file_shelf(rt);
     let mut gates = TcpGates::new(rt, handle);
     let mut clock = SystemClock::new(*rt);
     let Ok(words) = words(rt) else {
         let _ = tell(rt, &[], Exit::OutOfMemory, &shelf, None);
         return status_of(Exit::OutOfMemory);
     };
-    let exit = run_top(
+    let exit = top(
         handle,
         rt.alloc(),
         words.as_slice(),
