@@ -22,7 +22,7 @@
 //! - `*N LINE`: N times that line, with the number of the time, from 1, in place of each `\#`
 //! - `!read [N]`, `!write [N]`: the input fails behind what is sent so far, the output behind what
 //!   is due so far, or N bytes later
-//! - `@ ROW`: a row that stands in the store `f` ahead of the run:
+//! - `@ ROW`: a row that stands in the store `f`, or `f.cj` where the words name that, ahead of the run:
 //!   `KIND MAKER MORE AT NUM MARK N1 N2 N3 N4 N5 B1 B2`, `-` for no bytes, `#` ahead of hexadecimal digits
 //! - `@N ROW`: the same in place of row number N, from 0, of those told so far
 //! - `=@ same`, `=@ ROW`: the rows that are due there behind the run: those that stood there

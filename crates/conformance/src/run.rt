@@ -1,10 +1,10 @@
 //! One run of a case, over streams, a store and gates in memory.
 
 use crate::connection::{Connection, Talk};
-use crate::store::{PATH, Store, copied};
+use crate::store::{MemoryShelf, Store, path_in, rows_at};
 use cr_base::{Moment, Row};
-use cr_ports::{MemClock, MemGates, MemShelf, MemSink, MemSource};
-use cr_top::{Exit, run_top};
+use cr_ports::{MemClock, MemGates, MemSink, MemSource};
+use cr_top::{Exit, top};
 use std::alloc::{AllocError, Global};
 use std::sync::Wait;
 use std::thread::Threads;
@@ -118,7 +118,7 @@ pub struct Input<'a> {
 struct Outside {
     source: MemSource,
     sink: MemSink,
-    shelf: MemShelf,
+    shelf: MemoryShelf,
     gates: MemGates,
     clock: MemClock,
 }
@@ -198,12 +198,17 @@ fn ends_of(alloc: Global, gates: &MemGates) -> Result<Vec<Came>, AllocError> {
 }
 
 // What came of a run that ended so.
-fn outcome_of(alloc: Global, exit: Exit, outside: &Outside) -> Result<Outcome, AllocError> {
+fn outcome_of(
+    alloc: Global,
+    exit: Exit,
+    path: &str,
+    outside: &mut Outside,
+) -> Result<Outcome, AllocError> {
     Ok(Outcome {
         exit,
         own: end_of(alloc, &outside.source, &outside.sink, &outside.clock)?,
         connections: ends_of(alloc, &outside.gates)?,
-        rows: copied(alloc, outside.shelf.rows_at(PATH))?,
+        rows: rows_at(alloc, &mut outside.shelf, path)?,
         asked: texts(alloc, outside.gates.asked())?,
     })
 }
@@ -229,7 +234,7 @@ fn lists(alloc: Global, lists: &[Vec<u64>]) -> Result<Vec<Vec<u64>>, AllocError>
 impl Outside {
     // Does what the words ask for.
     fn run<R: Threads + Wait + Sync>(&mut self, rt: &R, alloc: Global, words: &[String]) -> Exit {
-        run_top(
+        top(
             rt,
             alloc,
             words,
@@ -290,7 +295,7 @@ impl Input<'_> {
         Ok(Outside {
             source: self.cut.source(alloc, self.sent, self.read_fault)?,
             sink: self.out_cut.sink(alloc, room, self.write_fault)?,
-            shelf: self.store.shelf(alloc)?,
+            shelf: self.store.shelf(alloc, path_in(self.words))?,
             gates: self.gates(alloc)?,
             clock: clock_of(alloc, self.moments, self.clock_fault)?,
         })
@@ -305,6 +310,6 @@ impl Input<'_> {
     ) -> Result<Outcome, AllocError> {
         let mut outside = self.outside(alloc, room)?;
         let exit = outside.run(rt, alloc, self.words);
-        outcome_of(alloc, exit, &outside)
+        outcome_of(alloc, exit, path_in(self.words), &mut outside)
     }
 }

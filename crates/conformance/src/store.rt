@@ -1,12 +1,35 @@
 //! The rows of a store, as lines of a case tell them.
+ghost use Rattle.std.specs.Prelude.{◌≡◌};
 
 use crate::text::{LineError, add_text, byte_of, read_number};
 use cr_base::{Blob, Row};
-use cr_ports::{Keeper, KeeperError, MemShelf, Shelf};
+use cr_disks::MemDisks;
+use cr_journal::JournalShelf;
+use cr_ports::{EitherShelf, Keeper, KeeperError, MemShelf, Shelf, Silent, WatchedShelf};
 use std::alloc::{AllocError, Global};
 
-/// Where the rows of a case stand.
-pub const PATH: &str = "f";
+/// Where the rows of a case stand whose words name no journal.
+const PATH: &str = "f";
+
+/// And where they do.
+const JOURNAL: &str = "f.cj";
+
+/// How many bytes, and how many writes and syncs, a journal has room for.
+const ROOM: usize = 1 << 20;
+
+const CALLS: usize = 1 << 14;
+
+/// The program's own shelf, over disks in memory and rows in memory, of which nobody is told.
+pub type MemoryShelf = EitherShelf<WatchedShelf<JournalShelf<MemDisks>, Silent>, MemShelf>;
+
+/// Where the rows of a case with these words stand.
+pub fn path_in(words: &[String]) -> &'static str {
+    if words.iter().any(|word| word.as_str() == JOURNAL) {
+        JOURNAL
+    } else {
+        PATH
+    }
+}
 
 /// The rows that stand in the store ahead of a run, and which calls of shelf and keeper fail.
 #[derive(Clone, Copy, Drop)]
@@ -23,33 +46,82 @@ pub struct Store<'a> {
 
 impl Store<'_> {
     /// A shelf with these rows at the path.
-    pub fn shelf(&self, alloc: Global) -> Result<MemShelf, AllocError> {
-        let mut opens = Vec::new(alloc);
-        if self.is_shut {
-            opens.push(u64::from(!self.rows.is_empty()))?;
-        }
-        let mut shelf = MemShelf::new(
-            alloc,
-            opens,
-            self.appends.to_vec(alloc)?,
-            self.reads.to_vec(alloc)?,
-        );
-        match self.fill(&mut shelf) {
+    pub fn shelf(&self, alloc: Global, path: &str) -> Result<MemoryShelf, AllocError> {
+        let disks = MemDisks::new(alloc, ROOM, CALLS, Vec::new(alloc));
+        let journals = WatchedShelf::new(JournalShelf::new(alloc, disks), Silent);
+        let mut shelf = EitherShelf::new(journals, self.rows_shelf(alloc)?);
+        match self.fill(&mut shelf, path) {
             Ok(()) => Ok(shelf),
             Err(_) => Err(AllocError),
         }
     }
 
+    // A shelf of rows in memory, whose calls fail as they are listed.
+    fn rows_shelf(&self, alloc: Global) -> Result<MemShelf, AllocError> {
+        let mut opens = Vec::new(alloc);
+        if self.is_shut {
+            opens.push(u64::from(!self.rows.is_empty()))?;
+        }
+        Ok(MemShelf::new(
+            alloc,
+            opens,
+            self.appends.to_vec(alloc)?,
+            self.reads.to_vec(alloc)?,
+        ))
+    }
+
     // Puts the rows into the store, where there are some.
-    fn fill(&self, shelf: &mut MemShelf) -> Result<(), KeeperError> {
+    fn fill<S: Shelf>(&self, shelf: &mut S, path: &str) -> Result<(), KeeperError> {
         if self.rows.is_empty() {
             return Ok(());
         }
-        let mut keeper = shelf.open(PATH)?;
+        let mut keeper = shelf.open(path)?;
         let filled = keeper.append_all(self.rows);
-        shelf.shut(PATH, keeper);
+        shelf.shut(path, keeper);
         filled
     }
+}
+
+// The row at a place, where there is one.
+fn row_at<K: Keeper>(keeper: &mut K, at: u64) -> Option<Row>
+    ensures { K.kind keeper.new ≡ K.kind keeper.old }
+{
+    if at >= keeper.len().ok()? {
+        return None;
+    }
+    keeper.row(at).ok()
+}
+
+// All rows that a keeper has.
+fn rows_of<K: Keeper>(alloc: Global, keeper: &mut K) -> Result<Vec<Row>, AllocError>
+    ensures { K.kind keeper.new ≡ K.kind keeper.old }
+{
+    let mut rows = Vec::new(alloc);
+    let count = keeper.len().unwrap_or(0);
+    'rows: for at in 0..count {
+        if let Some(row) = row_at(keeper, at) {
+            rows.push(row)?;
+        }
+    }
+    Ok(rows)
+}
+
+// The rows to which what stands at the path opens.
+fn opened_rows<S: Shelf>(alloc: Global, shelf: &mut S, path: &str) -> Result<Vec<Row>, AllocError> {
+    let Ok(mut keeper) = shelf.open(path) else {
+        return Ok(Vec::new(alloc));
+    };
+    let rows = rows_of(alloc, &mut keeper);
+    shelf.shut(path, keeper);
+    rows
+}
+
+/// The rows that stand at the path: of a journal those that it opens to.
+pub fn rows_at(alloc: Global, shelf: &mut MemoryShelf, path: &str) -> Result<Vec<Row>, AllocError> {
+    if path == JOURNAL {
+        return opened_rows(alloc, shelf, path);
+    }
+    copied(alloc, shelf.others().rows_at(path))
 }
 
 // A number of a row.

@@ -3,6 +3,8 @@
 #![tactic(auto)]
 
 #[cfg(test)]
+mod conferences;
+#[cfg(test)]
 mod images;
 #[cfg(test)]
 mod journals;

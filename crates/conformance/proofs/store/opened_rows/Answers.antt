@@ -1,0 +1,7 @@
+use Rattle.std.proofs.Common.{List, Bool, subst, sym}
+use Rattle.conformance.proofs.store.opened_rows.Goals as goal
+
+pub shut-requires : goal.shut-requires
+shut-requires g c =
+    subst (λ (kind : List Bool). g.S.Shelf.has_opened c.open.new.self c.args.path.now kind)
+    (sym c.rows_of-rows.ensures) c.in-Ok.ensures.opened
