@@ -1,5 +1,5 @@
 -- CrashKeepsGroups: what a stop of the machine may leave of the rows that a book has kept.
-use Rattle.std.specs.Prelude.{◌≡◌, ◌⊎◌, ℕ, ◌≤◌, Bool, List, [], ◌∷◌, ◌++◌, Option, IfSome, IsTrue, Result}
+use Rattle.std.specs.Prelude.{◌≡◌, ◌⊎◌, ℕ, ◌≤◌, List, [], ◌∷◌, ◌++◌, Option, IfSome, IsTrue, Result}
 use mathlib.Core.List.{IsPrefix}
 use Rattle.cr_base.specs.declared.row.Row.{Row}
 use Rattle.cr_base.specs.History.{History}
@@ -7,6 +7,7 @@ use Rattle.cr_base.specs.Rows.{rows_of}
 use Rattle.cr_policy.specs.Legal.{IsMoveAllowed, Legal, Move, moved}
 use Rattle.cr_ports.specs.Count.{Rises}
 use Rattle.cr_ports.specs.Stopping.{IsAmong, LeavesOnly, OpensTo, TriedAfter}
+use Rattle.cr_ports.specs.declared.keeper.Keeper.{Ghosts}
 
 -- one command or one bulk, which is allowed behind this history, adds this group to it
 pub record AddsOne (H group : History) : Type 0 where
@@ -25,38 +26,46 @@ pub record OpensAmid (opens : List ℕ → List Row → Type 0) (opened : Option
   pub opens_to : opens image (rows_of history)
       ⊎ ((group : History) × AddsOne history group × opens image (rows_of (history ++ group)))
 
--- of a book that was opened over one keeper and has another now, whose history is the log
-module _ {K : Type 0} (rows : K → Option (List Row)) (tried : K → List (List Row)) (moment : K → ℕ)
-    (left_since : K → ℕ → List ℕ → Type 0) (opens : List ℕ → List Row → Type 0) where
+-- ---- of a book that was opened over one keeper and has another now, whose history is the log
+
+-- what is told of keepers of one type, each by the name that the trait `Keeper` gives it
+abbrev pub Keepers : Type 0 → Type 1
+Keepers K = Ghosts K
+
+module _ {K : Type 0} (keepers : Keepers K) where
   -- what a stop at some moment since the opening may have left
   pub record KeepsGroups (opened now : K) (log : History) : Type 0 where
-    pub later : moment opened ≤ moment now
-    pub goes_on : IfSome (rows opened) (λ first. IsPrefix first (rows_of log))
+    pub later : keepers.moment opened ≤ keepers.moment now
+    pub goes_on : IfSome (keepers.rows opened) (λ first. IsPrefix first (rows_of log))
     -- what was tried is the group of one command or bulk behind the log
-    pub tried_follow : (added : List Row) → IsAmong (tried now) added
+    pub tried_follow : (added : List Row) → IsAmong (keepers.tried now) added
         → (group : History) × AddsOne log group × (added ≡ rows_of group)
-    pub since : (image : List ℕ) → left_since now (moment opened) image → OpensAmid opens (rows opened) log image
+    pub since : (image : List ℕ) → keepers.left_since now (keepers.moment opened) image
+        → OpensAmid keepers.opens (keepers.rows opened) log image
 
   -- what a stop may leave now; and what one may have left since the opening, of a keeper with which nothing had been
   -- tried in vain
   pub record StopsWell (opened now : K) (log : History) : Type 0 where
-    pub between : (image : List ℕ) → left_since now (moment now) image → OpensTo opens (rows_of log) (tried now) image
-    pub groups : tried opened ≡ [] → KeepsGroups opened now log
+    pub between : (image : List ℕ) → keepers.left_since now (keepers.moment now) image
+        → OpensTo keepers.opens (rows_of log) (keepers.tried now) image
+    pub groups : keepers.tried opened ≡ [] → KeepsGroups opened now log
 
   -- While a group was being put behind the log, by a call that ended so: a stop leaves the rows of the log, or these
   -- and then whole one group, this one or one that had been tried since the last that was kept.
-  pub record Adding (tells : K → Bool) {T E : Type 0} (result : Result T E) (log group : History) (old new : K)
-      : Type 0 where
+  pub record Adding {T E : Type 0} (result : Result T E) (log group : History) (old new : K) : Type 0 where
     -- the keeper tells as it did before what a stop may leave
-    pub telling : tells new ≡ tells old
-    pub tried_after : TriedAfter result (tried old) (rows_of group) (tried new)
-    pub stops : LeavesOnly moment left_since old new (OpensTo opens (rows_of log) (rows_of group ∷ tried old))
+    pub telling : keepers.tells_stops new ≡ keepers.tells_stops old
+    pub tried_after : TriedAfter result (keepers.tried old) (rows_of group) (keepers.tried new)
+    pub stops : LeavesOnly keepers.moment keepers.left_since old new
+        (OpensTo keepers.opens (rows_of log) (rows_of group ∷ keepers.tried old))
 
   -- what was kept since the opening, where the keeper tells what a stop may leave
-  abbrev pub KeepsTold : (K → Bool) → K → K → History → Type 0
-  KeepsTold tells opened now log = IsTrue (tells now) → tried opened ≡ [] → KeepsGroups opened now log
+  abbrev pub KeepsTold : K → K → History → Type 0
+  KeepsTold opened now log =
+      IsTrue (keepers.tells_stops now) → keepers.tried opened ≡ [] → KeepsGroups opened now log
 
--- A group was tried in vain since the opening only where the keeper's count of faults rose.
-pub record CountsTried {K : Type 0} (faults : K → ℕ) (tried : K → List (List Row)) (opened now : K) : Type 0 where
-  pub later : faults opened ≤ faults now
-  pub counted : tried opened ≡ [] → (tried now ≡ []) ⊎ Rises (faults opened) (faults now)
+  -- A group was tried in vain since the opening only where the keeper's count of faults rose.
+  pub record CountsTried (opened now : K) : Type 0 where
+    pub later : keepers.faults opened ≤ keepers.faults now
+    pub counted : keepers.tried opened ≡ [] → (keepers.tried now ≡ [])
+        ⊎ Rises (keepers.faults opened) (keepers.faults now)

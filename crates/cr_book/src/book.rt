@@ -70,10 +70,9 @@ impl<K: Keeper> Model for Book<K> {
     ghost use Rattle.std.specs.Prelude.{◌≡◌, IsTrue};
 
     ghost invariant = { λ b. IsSound K.rows b.log.entries b.live.tables b.keeper
-        × (IsTrue (K.tells_stops b.keeper) → StopsWell K.rows K.tried K.moment K.left_since K.opens b.opened.value
-        b.keeper b.log.entries)
+        × (IsTrue (K.tells_stops b.keeper) → StopsWell K.Keeper b.opened.value b.keeper b.log.entries)
         × (K.kind b.keeper ≡ K.kind b.opened.value)
-        × (IsTrue (K.tells_stops b.keeper) → CountsTried K.faults K.tried b.opened.value b.keeper) };
+        × (IsTrue (K.tells_stops b.keeper) → CountsTried K.Keeper b.opened.value b.keeper) };
 }
 
 /// Why a command or a bulk was not taken. `B` tells what is broken: a `Rule` of a command, a `Broken` of a bulk.
@@ -140,9 +139,9 @@ impl<K: Keeper> Book<K> {
         ensures same { result ≡ self.keeper }
         ensures kept { IsKept K.rows result self.log }
         ensures alike { K.kind result ≡ K.kind self.opened }
-        ensures stops { KeepsTold K.rows K.tried K.moment K.left_since K.opens K.tells_stops self.opened result
+        ensures stops { KeepsTold K.Keeper self.opened result
             self.log }
-        ensures counted { IsTrue (K.tells_stops result) → CountsTried K.faults K.tried self.opened result }
+        ensures counted { IsTrue (K.tells_stops result) → CountsTried K.Keeper self.opened result }
         ensures legal { Legal self.log }
     {
         let Book {
@@ -219,8 +218,7 @@ impl<K: Keeper> Book<K> {
         // What a stop may leave while something is added.
         ensures stops { IsTrue (K.tells_stops self.old.keeper) → (drawn : Drawn)
             → drawn_by (decide (view caller.now self.old.log) (call_of caller.now at key command)) ≡ Some drawn
-            → Adding K.rows K.tried K.moment K.left_since K.opens K.tells_stops result self.old.log drawn.group
-            self.old.keeper self.new.keeper }
+            → Adding K.Keeper result self.old.log drawn.group self.old.keeper self.new.keeper }
     {
         match look_up(&self.log, &self.live, caller, &key, false) {
             Earlier::Nothing => self.judge_command(Call {
@@ -264,8 +262,7 @@ impl<K: Keeper> Book<K> {
             → self.new.keeper ≡ self.old.keeper }
         ensures stops { IsTrue (K.tells_stops self.old.keeper) → (drawn : Drawn)
             → judge (view call.caller self.old.log) call ≡ Ok drawn
-            → Adding K.rows K.tried K.moment K.left_since K.opens K.tells_stops result self.old.log drawn.group
-            self.old.keeper self.new.keeper }
+            → Adding K.Keeper result self.old.log drawn.group self.old.keeper self.new.keeper }
     {
         let effect = match judge(&self.live, call) {
             Ok(effect) => effect,
@@ -344,8 +341,7 @@ impl<K: Keeper> Book<K> {
         // What a stop may leave while something is added.
         ensures stops { IsTrue (K.tells_stops self.old.keeper) → (drawn : Drawn)
             → drawn_by (decide_bulk (view (Some caller) self.old.log) (bulk_by caller at key rows)) ≡ Some drawn
-            → Adding K.rows K.tried K.moment K.left_since K.opens K.tells_stops result self.old.log drawn.group
-            self.old.keeper self.new.keeper }
+            → Adding K.Keeper result self.old.log drawn.group self.old.keeper self.new.keeper }
     {
         let stamp = Stamp {
             maker: caller,
@@ -393,8 +389,7 @@ impl<K: Keeper> Book<K> {
             → self.new.keeper ≡ self.old.keeper }
         ensures stops { IsTrue (K.tells_stops self.old.keeper) → (drawn : Drawn)
             → judge_bulk (view (Some stamp.maker) self.old.log) (record { stamp = stamp; rows = rows }) ≡ Ok drawn
-            → Adding K.rows K.tried K.moment K.left_since K.opens K.tells_stops result self.old.log drawn.group
-            self.old.keeper self.new.keeper }
+            → Adding K.Keeper result self.old.log drawn.group self.old.keeper self.new.keeper }
     {
         let group = match judge_bulk(&self.live, &stamp, rows) {
             Ok(group) => group,
@@ -427,8 +422,8 @@ impl<K: Keeper> Book<K> {
         ensures opened { self.new.opened ≡ self.old.opened }
         ensures untried { IsTrue (K.tells_stops self.old.keeper) → result ≡ Err BookError.OutOfMemory
             → self.new.keeper ≡ self.old.keeper }
-        ensures stops { IsTrue (K.tells_stops self.old.keeper) → Adding K.rows K.tried K.moment K.left_since K.opens
-            K.tells_stops result self.old.log group.items self.old.keeper self.new.keeper }
+        ensures stops { IsTrue (K.tells_stops self.old.keeper) → Adding K.Keeper result self.old.log
+            group.items self.old.keeper self.new.keeper }
     {
         let Ok(rows) = rows_of(self.alloc, &group) else {
             return Err(BookError::OutOfMemory);

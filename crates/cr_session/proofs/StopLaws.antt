@@ -8,11 +8,11 @@ use Rattle.cr_base.specs.Drawn.{Drawn}
 use Rattle.cr_base.specs.History.{History}
 use Rattle.cr_base.specs.Rows.{row_of, rows_of}
 use Rattle.cr_ports.specs.Stopping.{IsAmong, LeavesOnly, OpensTo}
-use Rattle.cr_book.specs.Stopping.{Adding}
+use Rattle.cr_book.specs.Stopping.{Adding, Keepers}
 use Rattle.cr_session.specs.Told.{drawn, and_drawn}
 use Rattle.cr_session.specs.Replay.{JudgedWish, Ledger, Replays, history_after}
 use Rattle.cr_session.specs.Tries.{Tries, TriesAlong, TriesWish, fate_of, tries_of}
-use Rattle.cr_session.specs.Stopping.{IsLostGroup, KeepsWishes, KeepsWishesTold, OpensBehind, history_behind}
+use Rattle.cr_session.specs.Stopping.{IsLostGroup, KeepsWishesTold, OpensBehind, history_behind}
 
 -- ---- the history after a turn
 
@@ -108,38 +108,38 @@ rows-behind opens H group added image is o =
 
 -- ---- one wish behind another
 
-module _ {K : Type 0} (tells : K → Bool) (rows : K → Option (List Row)) (tried : K → List (List Row)) (moment : K → ℕ)
-    (left_since : K → ℕ → List ℕ → Type 0) (opens : List ℕ → List Row → Type 0) (begun : ℕ) (opening : History) where
+module _ {K : Type 0} (keepers : Keepers K) (begun : ℕ) (opening : History) where
   abbrev tries : Tries K
-  tries = tries_of tells rows tried moment left_since opens
+  tries = tries_of keepers
 
   -- what is so of a keeper behind these wishes, which led to this history
   pub record KeptBehind (done : List JudgedWish) (H : History) (k : K) : Type 0 where
     pub at : history_behind opening done ≡ H
-    pub later : begun ≤ moment k
+    pub later : begun ≤ keepers.moment k
     -- what was tried since the last that was kept are groups of wishes that were lost
-    pub lost : (added : List Row) → IsAmong (tried k) added → (group : History) × IsLostGroup done H group
+    pub lost : (added : List Row) → IsAmong (keepers.tried k) added → (group : History) × IsLostGroup done H group
         × (added ≡ rows_of group)
-    pub since : (image : List ℕ) → left_since k begun image → OpensBehind opens opening done image
+    pub since : (image : List ℕ) → keepers.left_since k begun image → OpensBehind keepers.opens opening done image
 
   -- before the first of them
-  pub kept-none : (k : K) → begun ≤ moment k → tried k ≡ []
-      → ((image : List ℕ) → left_since k begun image → OpensTo opens (rows_of opening) (tried k) image)
+  pub kept-none : (k : K) → begun ≤ keepers.moment k → keepers.tried k ≡ []
+      → ((image : List ℕ) → keepers.left_since k begun image
+      → OpensTo keepers.opens (rows_of opening) (keepers.tried k) image)
       → KeptBehind [] opening k
   kept-none k later none between = record {
     at = refl;
     later = later;
     lost = λ added among. absurd (untried added among);
-    since = λ image left. ⊎_elim (λ same. opens-all opens opening [] [] opening image refl same)
+    since = λ image left. ⊎_elim (λ same. opens-all keepers.opens opening [] [] opening image refl same)
         (λ one. absurd (untried one.0 one.1)) (between image left);
   }
     where
-      untried : (added : List Row) → IsAmong (tried k) added → ⊥
+      untried : (added : List Row) → IsAmong (keepers.tried k) added → ⊥
       untried added among = subst (λ (l : List (List Row)). IsAmong l added) none among
 
   module _ (done : List JudgedWish) (H : History) (k k' : K) (kept : KeptBehind done H k) where
     -- a group that was tried and not kept before
-    lost-before : (ks : List JudgedWish) (H' : History) → H' ≡ H → (added : List Row) → IsAmong (tried k) added
+    lost-before : (ks : List JudgedWish) (H' : History) → H' ≡ H → (added : List Row) → IsAmong (keepers.tried k) added
         → (group : History) × IsLostGroup (done ++ ks) H' group × (added ≡ rows_of group)
     lost-before ks H' same added among =
         let l = kept.lost added among in
@@ -147,21 +147,24 @@ module _ {K : Type 0} (tells : K → Bool) (rows : K → Option (List Row)) (tri
 
     -- what a stop leaves while a group is put behind the history
     module _ (ks : List JudgedWish) (d : Drawn)
-        (own : (image : List ℕ) → opens image (rows_of (H ++ d.group)) → OpensBehind opens opening (done ++ ks) image)
-        (stops : LeavesOnly moment left_since k k' (OpensTo opens (rows_of H) (rows_of d.group ∷ tried k))) where
-      one-more : (image : List ℕ) (added : List Row) → IsAmong (rows_of d.group ∷ tried k) added
-          → opens image (rows_of H ++ added)
-          → OpensBehind opens opening (done ++ ks) image
-      one-more image added (inl is) o = own image (rows-behind opens H d.group added image is o)
+        (own : (image : List ℕ) → keepers.opens image (rows_of (H ++ d.group))
+        → OpensBehind keepers.opens opening (done ++ ks) image)
+        (stops : LeavesOnly keepers.moment keepers.left_since k k'
+        (OpensTo keepers.opens (rows_of H) (rows_of d.group ∷ keepers.tried k))) where
+      one-more : (image : List ℕ) (added : List Row) → IsAmong (rows_of d.group ∷ keepers.tried k) added
+          → keepers.opens image (rows_of H ++ added)
+          → OpensBehind keepers.opens opening (done ++ ks) image
+      one-more image added (inl is) o = own image (rows-behind keepers.opens H d.group added image is o)
       one-more image added (inr there) o =
           let l = kept.lost added there in
-          opens-group opens opening done ks H l.0 image kept.at (lost-more done ks H l.0 l.1)
-          (rows-behind opens H l.0 added image l.2 o)
+          opens-group keepers.opens opening done ks H l.0 image kept.at (lost-more done ks H l.0 l.1)
+          (rows-behind keepers.opens H l.0 added image l.2 o)
 
-      since-then : (image : List ℕ) → left_since k' begun image → OpensBehind opens opening (done ++ ks) image
+      since-then : (image : List ℕ) → keepers.left_since k' begun image
+          → OpensBehind keepers.opens opening (done ++ ks) image
       since-then image left =
-          ⊎_elim (λ before. opens-more opens opening done ks image (kept.since image before))
-          (λ now. ⊎_elim (λ same. opens-all opens opening done ks H image kept.at same)
+          ⊎_elim (λ before. opens-more keepers.opens opening done ks image (kept.since image before))
+          (λ now. ⊎_elim (λ same. opens-all keepers.opens opening done ks H image kept.at same)
           (λ one. one-more image one.0 one.1 one.2) now)
           (stops.before begun image kept.later left)
 
@@ -173,20 +176,21 @@ module _ {K : Type 0} (tells : K → Bool) (rows : K → Option (List Row)) (tri
           at = behind-last opening done j ∙ at;
           later = kept.later;
           lost = lost-before (j ∷ []) H' same;
-          since = λ image left. opens-more opens opening done (j ∷ []) image (kept.since image left);
+          since = λ image left. opens-more keepers.opens opening done (j ∷ []) image (kept.since image left);
         })
 
     -- one whose group was lost
     kept-lost : (j : JudgedWish) (d : Drawn) (H' : History) → j.lost ≡ true → j.seen ≡ H → drawn H j.wish ≡ Some d
         → history_after j ≡ H' → H' ≡ H
-        → Adding rows tried moment left_since opens tells {T = ⊤} {E = ⊤} (Err tt) H d.group k k'
+        → Adding keepers {T = ⊤} {E = ⊤} (Err tt) H d.group k k'
         → KeptBehind (done ++ j ∷ []) H' k'
     kept-lost j d H' lost seen draws at same a = record {
       at = behind-last opening done j ∙ at;
       later = (let before = kept.later in let more = a.stops.later in omega (arith, before, more));
       lost = λ added among. by added among a.tried_after;
       since =
-          since-then (j ∷ []) d (λ image o. opens-group opens opening done (j ∷ []) H d.group image kept.at (its H refl)
+          since-then (j ∷ []) d
+          (λ image o. opens-group keepers.opens opening done (j ∷ []) H d.group image kept.at (its H refl)
           o) a.stops;
     }
       where
@@ -201,8 +205,9 @@ module _ {K : Type 0} (tells : K → Bool) (rows : K → Option (List Row)) (tri
           group_is = refl;
         }
 
-        by : (added : List Row) → IsAmong (tried k') added
-            → (tried k' ≡ []) ⊎ ((tried k' ≡ rows_of d.group ∷ []) ⊎ (tried k' ≡ tried k))
+        by : (added : List Row) → IsAmong (keepers.tried k') added
+            → (keepers.tried k' ≡ [])
+            ⊎ ((keepers.tried k' ≡ rows_of d.group ∷ []) ⊎ (keepers.tried k' ≡ keepers.tried k))
             → (group : History) × IsLostGroup (done ++ j ∷ []) H' group × (added ≡ rows_of group)
         by added among (inl none) = absurd (subst (λ (l : List (List Row)). IsAmong l added) none among)
         by added among (inr (inl one)) = (
@@ -216,7 +221,7 @@ module _ {K : Type 0} (tells : K → Bool) (rows : K → Option (List Row)) (tri
 
     -- one whose group was kept
     kept-added : (j : JudgedWish) (d : Drawn) (H' : History) → history_after j ≡ H' → H' ≡ H ++ d.group
-        → Adding rows tried moment left_since opens tells {T = ⊤} {E = ⊤} (Ok tt) H d.group k k'
+        → Adding keepers {T = ⊤} {E = ⊤} (Ok tt) H d.group k k'
         → KeptBehind (done ++ j ∷ []) H' k'
     kept-added j d H' at adds a = record {
       at = behind-last opening done j ∙ at;
@@ -225,15 +230,16 @@ module _ {K : Type 0} (tells : K → Bool) (rows : K → Option (List Row)) (tri
       since = since-then (j ∷ []) d whole a.stops;
     }
       where
-        whole : (image : List ℕ) → opens image (rows_of (H ++ d.group))
-            → OpensBehind opens opening (done ++ j ∷ []) image
+        whole : (image : List ℕ) → keepers.opens image (rows_of (H ++ d.group))
+            → OpensBehind keepers.opens opening (done ++ j ∷ []) image
         whole image o =
-            subst (λ (js : List JudgedWish). OpensBehind opens opening js image) (append-nil (done ++ j ∷ []))
-            (opens-all opens opening (done ++ j ∷ []) [] H' image (behind-last opening done j ∙ at)
-            (subst (λ (h : History). opens image (rows_of h)) (sym adds) o))
+            subst (λ (js : List JudgedWish). OpensBehind keepers.opens opening js image) (append-nil (done ++ j ∷ []))
+            (opens-all keepers.opens opening (done ++ j ∷ []) [] H' image (behind-last opening done j ∙ at)
+            (subst (λ (h : History). keepers.opens image (rows_of h)) (sym adds) o))
 
     -- by whether it was lost, and by what it draws
-    kept-wish : (j : JudgedWish) (lost : Bool) (d : Option Drawn) → IsTrue (tells k) → j.lost ≡ lost → j.seen ≡ H
+    kept-wish : (j : JudgedWish) (lost : Bool) (d : Option Drawn) → IsTrue (keepers.tells_stops k) → j.lost ≡ lost
+        → j.seen ≡ H
         → drawn H j.wish ≡ d → tries H (fate_of lost d) k k'
         → KeptBehind (done ++ j ∷ []) (history_after j) k'
     kept-wish j lost None told is seen draws did =
@@ -247,7 +253,7 @@ module _ {K : Type 0} (tells : K → Bool) (rows : K → Option (List Row)) (tri
         ∙ ap (λ (h : History). h ++ d.group) seen) (did told)
 
   -- a wish as it was judged
-  kept-judged : (done : List JudgedWish) (H : History) (k k' : K) → IsTrue (tells k) → KeptBehind done H k
+  kept-judged : (done : List JudgedWish) (H : History) (k k' : K) → IsTrue (keepers.tells_stops k) → KeptBehind done H k
       → (j : JudgedWish) → j.seen ≡ H
       → TriesWish tries j k k' → KeptBehind (done ++ j ∷ []) (history_after j) k'
   kept-judged done H k k' told kept j seen did =
@@ -255,20 +261,21 @@ module _ {K : Type 0} (tells : K → Bool) (rows : K → Option (List Row)) (tri
       (subst (λ (h : History). tries h (fate_of j.lost (drawn h j.wish)) k k') seen did)
 
   -- behind a turn the keeper tells as it did what a stop leaves
-  tells-on : (lost : Bool) (H : History) (d : Option Drawn) (k k' : K) → IsTrue (tells k)
-      → tries H (fate_of lost d) k k' → IsTrue (tells k')
-  tells-on lost H None k k' told did = subst (λ (x : K). IsTrue (tells x)) (sym (did told)) told
+  tells-on : (lost : Bool) (H : History) (d : Option Drawn) (k k' : K) → IsTrue (keepers.tells_stops k)
+      → tries H (fate_of lost d) k k' → IsTrue (keepers.tells_stops k')
+  tells-on lost H None k k' told did = subst (λ (x : K). IsTrue (keepers.tells_stops x)) (sym (did told)) told
   tells-on true H (Some d) k k' told did = (did told).telling ∙ told
   tells-on false H (Some d) k k' told did = (did told).telling ∙ told
 
-  pub tells-along : (js : List JudgedWish) (k k' : K) → IsTrue (tells k) → TriesAlong tries js k k'
-      → IsTrue (tells k')
-  tells-along [] k k' told t = subst (λ (x : K). IsTrue (tells x)) (sym t) told
+  pub tells-along : (js : List JudgedWish) (k k' : K) → IsTrue (keepers.tells_stops k) → TriesAlong tries js k k'
+      → IsTrue (keepers.tells_stops k')
+  tells-along [] k k' told t = subst (λ (x : K). IsTrue (keepers.tells_stops x)) (sym t) told
   tells-along (j ∷ js) k k' told t =
       tells-along js t.0 k' (tells-on j.lost j.seen (drawn j.seen j.wish) k t.0 told t.1) t.2
 
   -- and all of them
-  pub kept-along : (js done : List JudgedWish) (b b' : Ledger) (k k' : K) → IsTrue (tells k) → KeptBehind done
+  pub kept-along : (js done : List JudgedWish) (b b' : Ledger) (k k' : K) → IsTrue (keepers.tells_stops k)
+      → KeptBehind done
       b.history k
       → Replays js b b'
       → TriesAlong tries js k k' → KeptBehind (done ++ js) b'.history k'
@@ -283,15 +290,13 @@ module _ {K : Type 0} (tells : K → Bool) (rows : K → Option (List Row)) (tri
       (subst (λ (h : History). KeptBehind (done ++ j ∷ []) h t.0) (sym r.1.history) here) r.2 t.2)
 
 -- over a keeper that is as it was
-pub wishes-none : {K : Type 0} (tells : K → Bool) (rows : K → Option (List Row)) (tried : K → List (List Row))
-    (moment : K → ℕ)
-    (left_since : K → ℕ → List ℕ → Type 0) (opens : List ℕ → List Row → Type 0) (k : K) (opening last : History)
+pub wishes-none : {K : Type 0} (keepers : Keepers K) (k : K) (opening last : History)
     (judged : List JudgedWish)
-    → KeepsWishesTold tells tried moment left_since opens k k opening last judged
-wishes-none tells rows tried moment left_since opens k opening last judged told none between = record {
+    → KeepsWishesTold keepers k k opening last judged
+wishes-none keepers k opening last judged told none between = record {
   since = λ image left.
-      opens-more opens opening [] judged image
-      ((kept-none tells rows tried moment left_since opens (moment k) opening k (omega arith) none between).since image
+      opens-more keepers.opens opening [] judged image
+      ((kept-none keepers (keepers.moment k) opening k (omega arith) none between).since image
       left);
   lost = λ added among. absurd (subst (λ (l : List (List Row)). IsAmong l added) none among);
 }

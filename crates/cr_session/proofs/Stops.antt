@@ -1,10 +1,10 @@
 -- What a stop may leave of a connection that is served on the one pass of a lock.
-use Rattle.std.proofs.Common.{◌≡◌, ◌∙◌, ⊎_elim, ℕ, List, [], ◌++◌, Bool, Option, Some, IfSome, ap, subst, arith}
+use Rattle.std.proofs.Common.{◌≡◌, ◌∙◌, ⊎_elim, ℕ, List, [], ◌++◌, Option, Some, IfSome, ap, subst, arith}
 use Rattle.cr_wire.specs.declared.what.Wish.{Wish}
 use Rattle.cr_base.specs.declared.entry.Stamped.{Stamped}
-use Rattle.cr_base.specs.declared.row.Row.{Row}
 use Rattle.cr_base.specs.Lists.{listed}
 use Rattle.cr_book.specs.Seen.{SeenBook}
+use Rattle.cr_book.specs.Stopping.{Keepers}
 use Rattle.cr_lock.specs.Closing.{Closes}
 use Rattle.cr_session.specs.Answering.{Desk}
 use Rattle.cr_session.specs.declared.serve.Ending.{Ending}
@@ -23,14 +23,12 @@ use Rattle.cr_session.proofs.StopLaws.{KeptBehind, kept-along, kept-none, tells-
 left-closed : {T : Type 0} (left : Option T) (x y : T) → left ≡ Some y → IfSome left (λ value. x ≡ value) → x ≡ y
 left-closed {T} left x y is closes = subst (λ (o : Option T). IfSome o (λ value. x ≡ value)) is closes
 
-module _ {K S Root : Type 0} (tells : K → Bool) (rows : K → Option (List Row)) (tried : K → List (List Row))
-    (moment : K → ℕ)
-    (left_since : K → ℕ → List ℕ → Type 0) (opens : List ℕ → List Row → Type 0)
+module _ {K S Root : Type 0} (keepers : Keepers K)
     (list : SeenBook K → List Stamped) (faults : SeenBook K → ℕ) (root : SeenBook K → Root) (first x : SeenBook K)
     (left : S → Option (List ℕ)) (gives : S → S → List ℕ → Type 0) (ending : Ending) (p p' : KnownPass K)
     (source source' : S) (f f' : ℕ) (d d' : Desk) where
   abbrev tries : Tries K
-  tries = tries_of tells rows tried moment left_since opens
+  tries = tries_of keepers
 
   module _ (whole : p.share ≡ 64) (begins : p.left ≡ Some first) (seen : p.seen ≡ list first) (bare : p.mine ≡ [])
       (closes : Closes list faults root first p' x)
@@ -39,24 +37,24 @@ module _ {K S Root : Type 0} (tells : K → Bool) (rows : K → Option (List Row
     abbrev judged : List JudgedWish
     judged = c.answered ++ listed c.failed
 
-    pub stops-closed : KeepsWishesTold tells tried moment left_since opens first.keeper x.keeper (list first) (list x)
+    pub stops-closed : KeepsWishesTold keepers first.keeper x.keeper (list first) (list x)
         (c.answered ++ listed c.failed)
     stops-closed told none between = record {
       since = λ image left_here.
-          kept.since image (subst (λ (k : K). left_since k (moment first.keeper) image) last left_here);
-      lost = λ added among. kept.lost added (subst (λ (k : K). IsAmong (tried k) added) last among);
+          kept.since image (subst (λ (k : K). keepers.left_since k (keepers.moment first.keeper) image) last left_here);
+      lost = λ added among. kept.lost added (subst (λ (k : K). IsAmong (keepers.tried k) added) last among);
     }
       where
         alone : (c.judged.share ≡ 64) × (y : SeenBook K) × (c.judged.left ≡ Some y)
             × TriesAlong tries judged first.keeper y.keeper
         alone = tries-alone tries judged p c.judged first whole begins c.turns
 
-        kept : KeptBehind tells rows tried moment left_since opens (moment first.keeper) (list first) judged (list x)
+        kept : KeptBehind keepers (keepers.moment first.keeper) (list first) judged (list x)
             alone.1.keeper
-        kept = kept-along tells rows tried moment left_since opens (moment first.keeper) (list first) judged []
+        kept = kept-along keepers (keepers.moment first.keeper) (list first) judged []
             (record { history = list first; faults = faults first }) (record { history = list x; faults = faults x })
             first.keeper alone.1.keeper told
-            (kept-none tells rows tried moment left_since opens (moment first.keeper) (list first) first.keeper
+            (kept-none keepers (keepers.moment first.keeper) (list first) first.keeper
             (omega arith) none between)
             (replays-closed tries list faults root first x p c.judged p' seen bare closes
             (stays_behind tries ending 0 c.got c.got c.answered c.failed c.judged p' d d' c.settled c.ends) judged
@@ -72,7 +70,7 @@ module _ {K S Root : Type 0} (tells : K → Bool) (rows : K → Option (List Row
         in_vain w v =
             let last = tries-vain tries w c.judged p' alone.1 alone.0 alone.2 v in
             ap (λ (b : SeenBook K). b.keeper) (left-closed p'.left x last.0 last.1 closes.left)
-            ∙ last.2 (tells-along tells rows tried moment left_since opens (moment first.keeper) (list first) judged
+            ∙ last.2 (tells-along keepers (keepers.moment first.keeper) (list first) judged
             first.keeper alone.1.keeper told alone.3)
 
         -- behind the turns of the wishes nothing is tried

@@ -1,14 +1,13 @@
 -- What a turn does with the keeper, by what its wish draws.
-use Rattle.std.proofs.Common.{◌≡◌, ℕ, List, Bool, true, false, Option, Some, None, IsSome, Result, Ok, Err, IsTrue, ap}
+use Rattle.std.proofs.Common.{◌≡◌, Bool, true, false, Option, Some, None, IsSome, Result, Ok, Err, IsTrue, ap}
 use Rattle.std.proofs.Common.{sym, subst, refl}
 use Rattle.cr_base.specs.declared.reply.Receipt.{Receipt}
-use Rattle.cr_base.specs.declared.row.Row.{Row}
 use Rattle.cr_base.specs.Drawn.{Drawn}
 use Rattle.cr_base.specs.History.{History}
 use Rattle.cr_base.specs.Retries.{Outcome, Repeats, Judged, drawn_by}
 use Rattle.cr_book.specs.Seen.{SeenBook}
 use Rattle.cr_book.specs.Sound.{Acts}
-use Rattle.cr_book.specs.Stopping.{Adding}
+use Rattle.cr_book.specs.Stopping.{Adding, Keepers}
 use Rattle.cr_book.proofs.StopLaws.{kept_adding, refused_adding}
 use Rattle.cr_session.specs.declared.turn.TurnResult.{TurnResult}
 use Rattle.cr_session.specs.declared.turn.TurnResult.TheVariants as turns
@@ -25,11 +24,10 @@ accepted-still {F} {K} (Repeats r) b b' receipt acts stays none = ap (λ (x : Se
 accepted-still (Judged (Ok drawn)) b b' receipt acts stays none = absurd (cc (none))
 accepted-still (Judged (Err refusal)) b b' receipt acts stays none = absurd acts
 
-module _ {K : Type 0} (tells : K → Bool) (rows : K → Option (List Row)) (tried : K → List (List Row)) (moment : K → ℕ)
-    (left_since : K → ℕ → List ℕ → Type 0) (opens : List ℕ → List Row → Type 0) where
+module _ {K : Type 0} (keepers : Keepers K) where
   -- what turns do with such a keeper
   abbrev tries : Tries K
-  tries = tries_of tells rows tried moment left_since opens
+  tries = tries_of keepers
 
   pub nothing-drawn : (lost : Bool) (H : History) (d : Option Drawn) (k k' : K) → d ≡ None → k' ≡ k
       → tries H (fate_of lost d) k k'
@@ -50,18 +48,18 @@ module _ {K : Type 0} (tells : K → Bool) (rows : K → Option (List Row)) (tri
   module _ {T E : Type 0} (result : Result T E) (H : History) (k k' : K) where
     -- what the call says of it
     abbrev Adds : Option Drawn → Type 0
-    Adds d = IsTrue (tells k) → (x : Drawn) → d ≡ Some x
-        → Adding rows tried moment left_since opens tells result H x.group k k'
+    Adds d = IsTrue (keepers.tells_stops k) → (x : Drawn) → d ≡ Some x
+        → Adding keepers result H x.group k k'
 
     pub tries-kept : (done : T) (d : Option Drawn) → result ≡ Ok done → (d ≡ None → k' ≡ k) → Adds d
         → tries H (kept_of d) k k'
     tries-kept done None is still adds = λ told. still refl
     tries-kept done (Some x) is still adds =
-        λ told. kept_adding rows tried moment left_since opens tells result done tt H x.group k k' is (adds told x refl)
+        λ told. kept_adding keepers result done tt H x.group k k' is (adds told x refl)
 
     pub tries-refused : (error : E) (d : Option Drawn) → result ≡ Err error → IsSome d → Adds d
         → tries H (lost_of d) k k'
     tries-refused error None is some adds = absurd (cc (some))
     tries-refused error (Some x) is some adds =
-        λ told. refused_adding rows tried moment left_since opens tells result error tt H x.group k k' is (adds told x
+        λ told. refused_adding keepers result error tt H x.group k k' is (adds told x
         refl)

@@ -1,10 +1,11 @@
 -- What a stop of the machine may leave of what one connection's wishes added: CrashKeepsGroups, by the wishes.
-use Rattle.std.specs.Prelude.{◌≡◌, ◌⊎◌, ℕ, List, [], ◌∷◌, ◌++◌, Bool, true, Some, IsTrue}
+use Rattle.std.specs.Prelude.{◌≡◌, ◌⊎◌, ℕ, List, [], ◌∷◌, ◌++◌, true, Some, IsTrue}
 use Rattle.cr_base.specs.declared.row.Row.{Row}
 use Rattle.cr_base.specs.Drawn.{Drawn}
 use Rattle.cr_base.specs.History.{History}
 use Rattle.cr_base.specs.Rows.{rows_of}
 use Rattle.cr_ports.specs.Stopping.{IsAmong, OpensTo}
+use Rattle.cr_book.specs.Stopping.{Keepers}
 use Rattle.cr_session.specs.Replay.{JudgedWish, history_after}
 use Rattle.cr_session.specs.Told.{drawn}
 
@@ -36,17 +37,17 @@ pub record OpensBehind (opens : List ℕ → List Row → Type 0) (opening : His
 
 -- What a stop at some moment since these wishes came, on this history, may have left; and the groups of which one may
 -- be found behind the rows of the last history: those of wishes that were lost on it.
-pub record KeepsWishes {K : Type 0} (tried : K → List (List Row)) (moment : K → ℕ)
-    (left_since : K → ℕ → List ℕ → Type 0) (opens : List ℕ → List Row → Type 0) (old new : K)
-    (opening last : History) (judged : List JudgedWish) : Type 0 where
-  pub since : (image : List ℕ) → left_since new (moment old) image → OpensBehind opens opening judged image
-  pub lost : (added : List Row) → IsAmong (tried new) added
+pub record KeepsWishes {K : Type 0} (keepers : Keepers K) (old new : K) (opening last : History)
+    (judged : List JudgedWish) : Type 0 where
+  pub since : (image : List ℕ) → keepers.left_since new (keepers.moment old) image
+      → OpensBehind keepers.opens opening judged image
+  pub lost : (added : List Row) → IsAmong (keepers.tried new) added
       → (group : History) × IsLostGroup judged last group × (added ≡ rows_of group)
 
 -- The same of a keeper that tells what a stop leaves, with which nothing had been tried in vain when these wishes came.
-abbrev pub KeepsWishesTold : {K : Type 0} → (K → Bool) → (K → List (List Row)) → (K → ℕ) → (K → ℕ → List ℕ → Type 0)
-    → (List ℕ → List Row → Type 0) → K → K → History → History → List JudgedWish → Type 0
-KeepsWishesTold tells tried moment left_since opens old new opening last judged =
-    IsTrue (tells old) → tried old ≡ []
-    → ((image : List ℕ) → left_since old (moment old) image → OpensTo opens (rows_of opening) (tried old) image)
-    → KeepsWishes tried moment left_since opens old new opening last judged
+abbrev pub KeepsWishesTold : {K : Type 0} → Keepers K → K → K → History → History → List JudgedWish → Type 0
+KeepsWishesTold keepers old new opening last judged =
+    IsTrue (keepers.tells_stops old) → keepers.tried old ≡ []
+    → ((image : List ℕ) → keepers.left_since old (keepers.moment old) image
+    → OpensTo keepers.opens (rows_of opening) (keepers.tried old) image)
+    → KeepsWishes keepers old new opening last judged

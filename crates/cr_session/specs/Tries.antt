@@ -1,9 +1,8 @@
 -- What one turn does with the keeper of a book's rows, and what turns do with it one after another.
-use Rattle.std.specs.Prelude.{◌≡◌, ℕ, List, [], ◌∷◌, Bool, true, false, Option, Some, None, Ok, Err, IsTrue, ⊤}
-use Rattle.cr_base.specs.declared.row.Row.{Row}
+use Rattle.std.specs.Prelude.{◌≡◌, List, [], ◌∷◌, Bool, true, false, Option, Some, None, Ok, Err, IsTrue, ⊤}
 use Rattle.cr_base.specs.Drawn.{Drawn}
 use Rattle.cr_base.specs.History.{History}
-use Rattle.cr_book.specs.Stopping.{Adding}
+use Rattle.cr_book.specs.Stopping.{Adding, Keepers}
 use Rattle.cr_session.specs.Told.{drawn}
 use Rattle.cr_session.specs.Replay.{JudgedWish}
 
@@ -34,13 +33,12 @@ Tries K = History → Fate → K → K → Type 0
 -- Where the keeper tells what a stop of the machine may leave: it is as it was where nothing is drawn. Else a stop
 -- while the group was being put behind the history leaves its rows, or these and then whole this group or one that had
 -- been tried.
-abbrev pub tries_of : {K : Type 0} → (K → Bool) → (K → Option (List Row)) → (K → List (List Row)) → (K → ℕ)
-    → (K → ℕ → List ℕ → Type 0) → (List ℕ → List Row → Type 0) → Tries K
-tries_of tells rows tried moment left_since opens H Nothing old new = IsTrue (tells old) → new ≡ old
-tries_of tells rows tried moment left_since opens H (Kept d) old new =
-    IsTrue (tells old) → Adding rows tried moment left_since opens tells {T = ⊤} {E = ⊤} (Ok tt) H d.group old new
-tries_of tells rows tried moment left_since opens H (Lost d) old new =
-    IsTrue (tells old) → Adding rows tried moment left_since opens tells {T = ⊤} {E = ⊤} (Err tt) H d.group old new
+abbrev pub tries_of : {K : Type 0} → Keepers K → Tries K
+tries_of keepers H Nothing old new = IsTrue (keepers.tells_stops old) → new ≡ old
+tries_of keepers H (Kept d) old new =
+    IsTrue (keepers.tells_stops old) → Adding keepers {T = ⊤} {E = ⊤} (Ok tt) H d.group old new
+tries_of keepers H (Lost d) old new =
+    IsTrue (keepers.tells_stops old) → Adding keepers {T = ⊤} {E = ⊤} (Err tt) H d.group old new
 
 module _ {K : Type 0} (tries : Tries K) where
   -- a wish was judged over a keeper, which is this one then

@@ -40,7 +40,7 @@ pub fn law_counted_faults()
 
 /// Over any turns of a pass at most as many commands are lost as the pass has marks more.
 pub fn law_marked_losses<K: Keeper>()
-    ensures { let tries = tries_of K.tells_stops K.rows K.tried K.moment K.left_since K.opens in
+    ensures { let tries = tries_of K.Keeper in
         (judged : List JudgedWish) (p p' : KnownPass K) → TakesTurns tries judged p p'
         → marks p.mine + lost_count judged ≤ marks p'.mine }
 {}

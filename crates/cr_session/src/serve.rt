@@ -128,7 +128,7 @@ fn serve_request<R: Wait, K: Keeper, O: Sink>(
     requires few { pass.old.turns < 2 ^ 40 }
     requires bounded { IsBoundedWish wish }
     requires room { 512 ≤ vec_capacity space.old.reply }
-    ensures serves { let tries = tries_of K.tells_stops K.rows K.tried K.moment K.left_since K.opens in
+    ensures serves { let tries = tries_of K.Keeper in
         ServesRequest tries result number wish pass.old pass.new (outlet_of O.taken O.faults sink.old)
         (outlet_of O.taken O.faults sink.new) }
     ensures pass { StaysPass 1 pass.old pass.new }
@@ -233,7 +233,7 @@ fn serve_next_request<R: Wait, K: Keeper, S: Source, O: Sink, C: Clock>(
     requires few { pass.old.turns < 2 ^ 40 }
     requires room { 512 ≤ vec_capacity space.old.reply }
     ensures round { let world = world_of S.faults O.taken O.faults C.coming C.faults in
-        let tries = tries_of K.tells_stops K.rows K.tried K.moment K.left_since K.opens in
+        let tries = tries_of K.Keeper in
         OneRound tries S.left S.read_gives result number space.old.inbox space.new.inbox
         (world pass.old source.old sink.old clock.old) (world pass.new source.new sink.new clock.new) }
     ensures pass { StaysPass 1 pass.old pass.new }
@@ -295,13 +295,13 @@ pub fn serve_connection<R: Wait, K: Keeper, S: Source, O: Sink, C: Clock>(
     requires own { pass.old.lock ≡ server.now.lock.lock }
     requires few { pass.old.turns ≤ 2 ^ 40 - 2 ^ 20 }
     ensures connection { let world = world_of S.faults O.taken O.faults C.coming C.faults in
-        let tries = tries_of K.tells_stops K.rows K.tried K.moment K.left_since K.opens in
+        let tries = tries_of K.Keeper in
         ConnectionInHistory tries S.left S.read_gives result 0 [] (world pass.old source.old sink.old clock.old)
         (world pass.new source.new sink.new clock.new) }
 
     // The same of the whole text that the source had left.
     ensures whole { let world = world_of S.faults O.taken O.faults C.coming C.faults in
-        let tries = tries_of K.tells_stops K.rows K.tried K.moment K.left_since K.opens in
+        let tries = tries_of K.Keeper in
         (b : List ℕ) → S.left source.old ≡ Some b
         → WholeInHistory tries S.left result b (world pass.old source.old sink.old clock.old)
         (world pass.new source.new sink.new clock.new) }

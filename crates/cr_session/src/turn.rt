@@ -52,7 +52,7 @@ pub(crate) fn in_turn<R: Wait, K: Keeper>(
     requires own { pass.old.lock ≡ server.now.lock.lock }
     requires few { pass.old.turns < 2 ^ 40 }
     requires bounded { IsBoundedWish wish }
-    ensures { let tries = tries_of K.tells_stops K.rows K.tried K.moment K.left_since K.opens in
+    ensures { let tries = tries_of K.Keeper in
         (b b' : SeenBook K)
         × IsPrefix pass.old.seen b.log
         × IsAsLeft pass.old b
@@ -71,7 +71,7 @@ pub(crate) fn in_turn<R: Wait, K: Keeper>(
 pub(crate) fn take_turn<K: Keeper>(book: &mut Book<K>, wish: Wish) -> TurnResult
     requires { IsBoundedWish wish }
     ensures turns { Turns result wish (ledger_of K.faults book.old) (ledger_of K.faults book.new) }
-    ensures tried { let tries = tries_of K.tells_stops K.rows K.tried K.moment K.left_since K.opens in
+    ensures tried { let tries = tries_of K.Keeper in
         TurnTries tries result book.old.log (drawn book.old.log wish) book.old.keeper book.new.keeper }
     ensures opened { book.new.opened ≡ book.old.opened }
 {
@@ -130,7 +130,7 @@ fn judge<K: Keeper>(
     requires { IsGiven book.old.log (call_of caller.now at key command) }
     ensures changes { ChangesBook K.faults result
         (as_bulk (decide (view caller.now book.old.log) (call_of caller.now at key command))) book.old book.new }
-    ensures tried { let tries = tries_of K.tells_stops K.rows K.tried K.moment K.left_since K.opens in
+    ensures tried { let tries = tries_of K.Keeper in
         TurnTries tries result book.old.log
         (drawn_by (decide (view caller.now book.old.log) (call_of caller.now at key command)))
         book.old.keeper book.new.keeper }
@@ -155,7 +155,7 @@ fn judge_bulk<K: Keeper>(
     requires { IsBulkCaller book.old.log caller.now at key rows }
     ensures changes { ChangesBook K.faults result
         (decide_bulk (view caller.now book.old.log) (bulk_by (maker_of caller.now) at key rows)) book.old book.new }
-    ensures tried { let tries = tries_of K.tells_stops K.rows K.tried K.moment K.left_since K.opens in
+    ensures tried { let tries = tries_of K.Keeper in
         TurnTries tries result book.old.log
         (drawn_by (decide_bulk (view caller.now book.old.log) (bulk_by (maker_of caller.now) at key rows)))
         book.old.keeper book.new.keeper }
@@ -179,7 +179,7 @@ fn judge_rows<K: Keeper>(
     requires { IsBulkGiven book.old.log (bulk_by user at key rows) }
     ensures changes { ChangesBook K.faults result
         (decide_bulk (view (Some user) book.old.log) (bulk_by user at key rows)) book.old book.new }
-    ensures tried { let tries = tries_of K.tells_stops K.rows K.tried K.moment K.left_since K.opens in
+    ensures tried { let tries = tries_of K.Keeper in
         TurnTries tries result book.old.log
         (drawn_by (decide_bulk (view (Some user) book.old.log) (bulk_by user at key rows)))
         book.old.keeper book.new.keeper }

@@ -41,7 +41,7 @@ use Rattle.cr_top.specs.declared.exit.Exit.{Exit}
 use Rattle.cr_top.specs.declared.exit.Exit.TheVariants as exits
 use Rattle.cr_top.specs.Exits.{exit_of, exit_of_rows}
 use Rattle.cr_top.specs.Runs.{Keeps, Outside, Pipes, world}
-use Rattle.cr_book.specs.Stopping.{CountsTried, KeepsGroups, KeepsTold, OpensAmid}
+use Rattle.cr_book.specs.Stopping.{CountsTried, Keepers, KeepsGroups, KeepsTold, OpensAmid}
 use Rattle.cr_top.specs.Stores.{AnswersView, BeginsAt, CrashKeepsGroups, IsBadStore, IsGroupInVain, Keeping}
 use Rattle.cr_top.specs.Stores.{KeepsOthers, KeepsRows, KeepsStore, KeepsWishesThere, LeavesExactly, OpensStore}
 use Rattle.cr_top.specs.Stores.{RowsByPath}
@@ -125,19 +125,19 @@ opens-store {K} rows faults path keeper book s s' legal found exact same first f
     opened r told = subst (λ (t : Option (List Row)). IfSome t (λ l. Opens {K = K} l (Ok book))) told exact
 
 -- the book begins with what its keeper had
-pub begins-at : {K : Type 0} (rows : K → Option (List Row)) (tried : K → List (List Row)) (moment : K → ℕ)
-    (left_since : K → ℕ → List ℕ → Type 0) (opens : List ℕ → List Row → Type 0) (at : ℕ) (keeper : K)
-    (book : SeenBook K) → book.opened ≡ keeper → book.keeper ≡ keeper → at ≡ moment keeper → tried keeper ≡ []
-    → IfSome (rows keeper) (λ r. Opens r (Ok book))
-    → ((image : List ℕ) → left_since book.keeper (moment book.keeper) image
-    → OpensTo opens (rows_of book.log) (tried book.keeper) image)
-    → BeginsAt rows tried moment left_since opens at book
-begins-at {K} rows tried moment left_since opens at keeper book first still here none exact between = record {
-  at = here ∙ ap moment (sym first);
+pub begins-at : {K : Type 0} (keepers : Keepers K) (at : ℕ) (keeper : K)
+    (book : SeenBook K) → book.opened ≡ keeper → book.keeper ≡ keeper → at ≡ keepers.moment keeper
+    → keepers.tried keeper ≡ []
+    → IfSome (keepers.rows keeper) (λ r. Opens r (Ok book))
+    → ((image : List ℕ) → keepers.left_since book.keeper (keepers.moment book.keeper) image
+    → OpensTo keepers.opens (rows_of book.log) (keepers.tried book.keeper) image)
+    → BeginsAt keepers at book
+begins-at {K} keepers at keeper book first still here none exact between = record {
+  at = here ∙ ap keepers.moment (sym first);
   still = still ∙ sym first;
-  none = ap tried first ∙ none;
-  first = subst (λ (k : K). IfSome (rows k) (λ told. rows_of book.log ≡ told)) (sym first)
-      (mapped (rows keeper) (λ r so. so.1) exact);
+  none = ap keepers.tried first ∙ none;
+  first = subst (λ (k : K). IfSome (keepers.rows k) (λ told. rows_of book.log ≡ told)) (sym first)
+      (mapped (keepers.rows keeper) (λ r so. so.1) exact);
   between = between;
 }
 
@@ -360,14 +360,12 @@ views-store tells rows tried faults path name exit book keeper' o o' s m s' open
     }
 
 -- nothing was tried in vain with a keeper that is as it was opened
-pub none-tried : {K : Type 0} (tells : Bool) (rows : K → Option (List Row)) (tried : K → List (List Row))
-    (moment : K → ℕ)
-    (left_since : K → ℕ → List ℕ → Type 0) (opens : List ℕ → List Row → Type 0) (at : ℕ)
-    (book : SeenBook K) (keeper' : K) → (IsTrue tells → BeginsAt rows tried moment left_since opens at book)
+pub none-tried : {K : Type 0} (tells : Bool) (keepers : Keepers K) (at : ℕ)
+    (book : SeenBook K) (keeper' : K) → (IsTrue tells → BeginsAt keepers at book)
     → keeper' ≡ book.keeper
-    → IsTrue tells → tried keeper' ≡ []
-none-tried tells rows tried moment left_since opens at book keeper' begins same told =
-    let b = begins told in ap tried (same ∙ b.still) ∙ b.none
+    → IsTrue tells → keepers.tried keeper' ≡ []
+none-tried tells keepers at book keeper' begins same told =
+    let b = begins told in ap keepers.tried (same ∙ b.still) ∙ b.none
 
 -- what a view is answered where nothing fails
 pub answers-view : (H : History) (name : List ℕ) (exit : Exit) (o o' : Outlet) → TellsView H name exit o o'
@@ -414,22 +412,20 @@ nobody-has name H legal long = ap last (none-named name H long (legal-bounded H 
 -- ---- what a stop may have left
 
 -- what a book's keeper keeps since it was opened, its shelf tells once the keeper was shut
-pub groups-kept : {K : Type 0} (tells : Bool) (rows : K → Option (List Row)) (tried : K → List (List Row))
-    (moment : K → ℕ)
-    (left_since : K → ℕ → List ℕ → Type 0) (opens : List ℕ → List Row → Type 0) (left : List ℕ → Type 0) (at : ℕ)
+pub groups-kept : {K : Type 0} (tells : Bool) (keepers : Keepers K) (left : List ℕ → Type 0) (at : ℕ)
     (book : SeenBook K) (keeper' : K)
-    → (IsTrue tells → IsTrue (is_some (rows book.opened)))
-    → (IsTrue tells → BeginsAt rows tried moment left_since opens at book)
-    → (IsTrue tells → (image : List ℕ) → left image → left_since keeper' at image)
+    → (IsTrue tells → IsTrue (is_some (keepers.rows book.opened)))
+    → (IsTrue tells → BeginsAt keepers at book)
+    → (IsTrue tells → (image : List ℕ) → left image → keepers.left_since keeper' at image)
     → (history : History)
-    → (IsTrue tells → tried book.opened ≡ [] → KeepsGroups rows tried moment left_since opens book.opened keeper'
+    → (IsTrue tells → keepers.tried book.opened ≡ [] → KeepsGroups keepers book.opened keeper'
     history)
-    → CrashKeepsGroups tells opens left book.log history
-groups-kept {K} tells rows tried moment left_since opens left at book keeper' there begins shut history kept told image
+    → CrashKeepsGroups tells keepers.opens left book.log history
+groups-kept {K} tells keepers left at book keeper' there begins shut history kept told image
     may =
     let b = begins told in
-    opened-rows (rows book.opened) (there told) b.first
-    ((kept told b.none).since image (subst (λ (t : ℕ). left_since keeper' t image) b.at (shut told image may)))
+    opened-rows (keepers.rows book.opened) (there told) b.first
+    ((kept told b.none).since image (subst (λ (t : ℕ). keepers.left_since keeper' t image) b.at (shut told image may)))
   where
     opened-rows : (first : Option (List Row)) → IsTrue (is_some first) → IfSome first (λ r. rows_of book.log ≡ r)
         → OpensAmid opens first history image → OpensAmid opens (Some (rows_of book.log)) history image
@@ -438,62 +434,69 @@ groups-kept {K} tells rows tried moment left_since opens left at book keeper' th
 
 -- What a book's keeper keeps, its shelf tells once the keeper was shut. The book was opened over a keeper of a path at
 -- which the shelf's keepers tell so.
-module _ {K : Type 0} (tells : Bool) (telling : K → Bool) (rows : K → Option (List Row)) (tried : K → List (List Row))
-    (moment : K → ℕ)
-    (left_since : K → ℕ → List ℕ → Type 0) (opens : List ℕ → List Row → Type 0) (left : List ℕ → List ℕ → Type 0)
-    (at : ℕ)
-    (faults : K → ℕ) (path : List ℕ) (book : SeenBook K) (keeper' : K) (s m s' : ShelfState)
-    (told : (k : K) → IsTrue (telling k) → IsTrue (is_some (rows k))) (so : telling book.opened ≡ tells)
-    (so' : telling keeper' ≡ tells) (alike : is_some (rows keeper') ≡ is_some (rows book.opened))
-    (begins : IsTrue tells → BeginsAt rows tried moment left_since opens at book)
-    (shut : IsTrue (telling keeper') → (image : List ℕ) → left path image → left_since keeper' at image)
-    (opened : OpensStore rows faults path book s m)
-    (there-now : IfSome (rows keeper') (λ k. StandsAfter tells k (tried keeper') (m.rows path) (s'.rows path)))
+module _ {K : Type 0} (tells : Bool) (keepers : Keepers K) (left : List ℕ → List ℕ → Type 0)
+    (at : ℕ) (path : List ℕ) (book : SeenBook K) (keeper' : K) (s m s' : ShelfState)
+    (so : keepers.tells_stops book.opened ≡ tells)
+    (so' : keepers.tells_stops keeper' ≡ tells)
+    (alike : is_some (keepers.rows keeper') ≡ is_some (keepers.rows book.opened))
+    (begins : IsTrue tells → BeginsAt keepers at book)
+    (shut : IsTrue (keepers.tells_stops keeper') → (image : List ℕ) → left path image
+    → keepers.left_since keeper' at image)
+    (opened : OpensStore keepers.rows keepers.faults path book s m)
+    (there-now : IfSome (keepers.rows keeper')
+    (λ k. StandsAfter tells k (keepers.tried keeper') (m.rows path) (s'.rows path)))
     (others : KeepsOthers path m s')
-    (gains : Gains m.faults (faults keeper') s'.faults)
-    (history : History) (is : IsKept rows keeper' history) where
-  pub keeps-store : KeepsTold rows tried moment left_since opens telling book.opened keeper' history
-      → (IsTrue (telling keeper') → CountsTried faults tried book.opened keeper')
-      → KeepsStore tells opens left path book.log history s s'
+    (gains : Gains m.faults (keepers.faults keeper') s'.faults)
+    (history : History) (is : IsKept keepers.rows keeper' history) where
+  pub keeps-store : KeepsTold keepers book.opened keeper' history
+      → (IsTrue (keepers.tells_stops keeper') → CountsTried keepers book.opened keeper')
+      → KeepsStore tells keepers.opens left path book.log history s s'
   keeps-store kept told-count = record {
     kept = record {
-      there = stand tells rows tried faults path book keeper' s m s' opened there-now others gains history is alike
+      there = stand tells keepers.rows keepers.tried keepers.faults path book keeper' s m s' opened there-now others
+          gains history is alike
           (IsGroupInVain history s s') follows;
-      others = others-now tells rows tried faults path book keeper' s m s' opened there-now others gains;
+      others = others-now tells keepers.rows keepers.tried keepers.faults path book keeper' s m s' opened there-now
+          others gains;
     };
     stops =
-        groups-kept tells rows tried moment left_since opens (left path) at book keeper'
-        (λ yes. told book.opened (so ∙ yes)) begins (λ yes. shut (so' ∙ yes)) history (λ yes. kept (so' ∙ yes));
+        groups-kept tells keepers (left path) at book keeper'
+        (λ yes. keepers.rows_told book.opened (so ∙ yes)) begins (λ yes. shut (so' ∙ yes)) history
+        (λ yes. kept (so' ∙ yes));
   }
     where
-      rose : IsTrue tells → (added : List Row) → IsAmong (tried keeper') added → Rises s.faults s'.faults
+      rose : IsTrue tells → (added : List Row) → IsAmong (keepers.tried keeper') added → Rises s.faults s'.faults
       rose yes added among =
           let b = begins yes in
           ⊎_elim (λ none. absurd (subst (λ (l : List (List Row)). IsAmong l added) none among))
-          (λ up. risen s.faults (faults keeper') s'.faults
-          (subst (λ (n : ℕ). Rises n (faults keeper')) (ap faults (sym b.still) ∙ opened.fresh) up)
-          (count-now tells rows tried faults path book keeper' s m s' opened there-now others gains))
+          (λ up. risen s.faults (keepers.faults keeper') s'.faults
+          (subst (λ (n : ℕ). Rises n (keepers.faults keeper')) (ap keepers.faults (sym b.still) ∙ opened.fresh) up)
+          (count-now tells keepers.rows keepers.tried keepers.faults path book keeper' s m s' opened there-now others
+          gains))
           ((told-count (so' ∙ yes)).counted b.none)
 
-      follows : IsTrue tells → (added : List Row) → IsAmong (tried keeper') added
+      follows : IsTrue tells → (added : List Row) → IsAmong (keepers.tried keeper') added
           → (group : History) × IsGroupInVain history s s' group × (added ≡ rows_of group)
       follows yes added among =
           let f = (kept (so' ∙ yes) (begins yes).none).tried_follow added among in
           (f.0, record { adds = f.1; counted = rose yes added among }, f.2)
 
   -- a keeper that has counted no fault leaves the rows of its history and no more
-  pub exact-rows : (IsTrue (telling keeper') → CountsTried faults tried book.opened keeper') → faults keeper' ≡ 0
+  pub exact-rows : (IsTrue (keepers.tells_stops keeper') → CountsTried keepers book.opened keeper')
+      → keepers.faults keeper' ≡ 0
       → LeavesExactly path history s s'
   exact-rows told-count none =
-      alone (s.rows path) (stand tells rows tried faults path book keeper' s m s' opened there-now others gains history
+      alone (s.rows path)
+      (stand tells keepers.rows keepers.tried keepers.faults path book keeper' s m s' opened there-now others gains
+      history
       is
       alike (λ group. ⊥) (λ yes added among. absurd (untried yes added among)))
     where
-      untried : IsTrue tells → (added : List Row) → IsAmong (tried keeper') added → ⊥
+      untried : IsTrue tells → (added : List Row) → IsAmong (keepers.tried keeper') added → ⊥
       untried yes added among =
           let b = begins yes in
           ⊎_elim (λ empty. subst (λ (l : List (List Row)). IsAmong l added) empty among)
-          (λ up. let first : faults book.opened ≡ 0 = ap faults (sym b.still) ∙ opened.fresh in
+          (λ up. let first : keepers.faults book.opened ≡ 0 = ap keepers.faults (sym b.still) ∙ opened.fresh in
           let more = up (omega (arith, none)) in
           absurd (omega (arith, first, none, more)))
           ((told-count (so' ∙ yes)).counted b.none)
@@ -508,20 +511,22 @@ module _ {K : Type 0} (tells : Bool) (telling : K → Bool) (rows : K → Option
 
   -- and by the wishes of one connection
   pub wishes-kept : (judged : List JudgedWish)
-      → KeepsWishesTold telling tried moment left_since opens book.keeper keeper' book.log history judged
-      → KeepsWishesThere tells opens left path book.log history judged s s'
+      → KeepsWishesTold keepers book.keeper keeper' book.log history judged
+      → KeepsWishesThere tells keepers.opens left path book.log history judged s s'
   wishes-kept judged kept = record {
-    there = stand tells rows tried faults path book keeper' s m s' opened there-now others gains history is alike
+    there = stand tells keepers.rows keepers.tried keepers.faults path book keeper' s m s' opened there-now others
+        gains history is alike
         (IsLostGroup judged history) (λ yes. (kept-so yes).lost);
     stops = λ yes image may. (kept-so yes).since image
         (let b = begins yes in
-        subst (λ (t : ℕ). left_since keeper' t image) (b.at ∙ sym (ap moment b.still)) (shut (so' ∙ yes) image may));
+        subst (λ (t : ℕ). keepers.left_since keeper' t image) (b.at ∙ sym (ap keepers.moment b.still))
+        (shut (so' ∙ yes) image may));
   }
     where
-      kept-so : IsTrue tells → KeepsWishes tried moment left_since opens book.keeper keeper' book.log history judged
+      kept-so : IsTrue tells → KeepsWishes keepers book.keeper keeper' book.log history judged
       kept-so yes =
           let b = begins yes in
-          kept (ap telling b.still ∙ so ∙ yes) (ap tried b.still ∙ b.none) b.between
+          kept (ap keepers.tells_stops b.still ∙ so ∙ yes) (ap keepers.tried b.still ∙ b.none) b.between
 
 -- what stands where a keeper was shut, by whether it tells what a stop leaves
 pub stands-by : (one other : Bool) → one ≡ other → (told : Option (List Row)) (tried : List (List Row))

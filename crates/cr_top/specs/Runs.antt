@@ -1,5 +1,5 @@
 -- What a whole run did.
-use Rattle.std.specs.Prelude.{◌≡◌, ◌⊎◌, ℕ, Bool, List, [], ◌++◌, Option, Some}
+use Rattle.std.specs.Prelude.{◌≡◌, ◌⊎◌, ℕ, List, [], ◌++◌, Option, Some}
 use Rattle.cr_base.specs.Lists.{listed}
 use Rattle.cr_base.specs.declared.row.Row.{Row}
 use Rattle.cr_base.specs.History.{History}
@@ -8,7 +8,7 @@ use Rattle.cr_ports.specs.Stream.{Taken}
 use Rattle.cr_policy.specs.Legal.{Legal}
 use Rattle.cr_book.specs.Seen.{SeenBook}
 use Rattle.cr_book.specs.Sound.{IsKept}
-use Rattle.cr_book.specs.Stopping.{KeepsTold}
+use Rattle.cr_book.specs.Stopping.{Keepers, KeepsTold}
 use Rattle.cr_drill.specs.Drill.{drilled, summary}
 use Rattle.cr_http.specs.Requests.{End}
 use Rattle.cr_words.specs.Usage.{usage}
@@ -67,11 +67,10 @@ abbrev pub Keeps : Type 1
 Keeps = History → List JudgedWish → Type 0
 
 -- what a stop may leave of the keeper of this book since that was opened, and since one connection was served over it
-abbrev pub KeepsSince : {K : Type 0} → (K → Bool) → (K → Option (List Row)) → (K → List (List Row)) → (K → ℕ)
-    → (K → ℕ → List ℕ → Type 0) → (List ℕ → List Row → Type 0) → SeenBook K → K → Keeps
-KeepsSince tells rows tried moment left_since opens book keeper' history judged =
-    KeepsTold rows tried moment left_since opens tells book.opened keeper' history
-    × KeepsWishesTold tells tried moment left_since opens book.keeper keeper' book.log history judged
+abbrev pub KeepsSince : {K : Type 0} → Keepers K → SeenBook K → K → Keeps
+KeepsSince keepers book keeper' history judged =
+    KeepsTold keepers book.opened keeper' history
+    × KeepsWishesTold keepers book.keeper keeper' book.log history judged
 
 -- From this history on, whose rows the keeper had, a connection was served to its ending, and the keeper was handed
 -- back with the rows of the last history, of which something is so besides.

@@ -15,7 +15,7 @@ use Rattle.cr_sights.specs.Lines.{lines_text}
 use Rattle.cr_sights.specs.Walks.{StopsShort}
 use Rattle.cr_book.specs.Opening.{IsBadAt}
 use Rattle.cr_book.specs.Seen.{SeenBook}
-use Rattle.cr_book.specs.Stopping.{AddsOne, OpensAmid}
+use Rattle.cr_book.specs.Stopping.{AddsOne, Keepers, OpensAmid}
 use Rattle.cr_session.specs.Replay.{JudgedWish, lost_count}
 use Rattle.cr_session.specs.Stopping.{IsLostGroup, OpensBehind}
 use Rattle.cr_session.specs.declared.serve.Ending.{Ending}
@@ -61,15 +61,13 @@ pub record OpensStore {K : Type 0} (rows : K → Option (List Row)) (faults : K 
 
 -- A book was opened over a keeper that its shelf opened at this moment, and has it still: nothing had been tried with
 -- it in vain, its rows, where it tells them, are the history's, and so are those that a stop leaves now.
-pub record BeginsAt {K : Type 0} (rows : K → Option (List Row)) (tried : K → List (List Row)) (moment : K → ℕ)
-    (left_since : K → ℕ → List ℕ → Type 0) (opens : List ℕ → List Row → Type 0) (opened_at : ℕ) (book : SeenBook K)
-    : Type 0 where
-  pub at : opened_at ≡ moment book.opened
+pub record BeginsAt {K : Type 0} (keepers : Keepers K) (opened_at : ℕ) (book : SeenBook K) : Type 0 where
+  pub at : opened_at ≡ keepers.moment book.opened
   pub still : book.keeper ≡ book.opened
-  pub none : tried book.opened ≡ []
-  pub first : IfSome (rows book.opened) (λ told. rows_of book.log ≡ told)
-  pub between : (image : List ℕ) → left_since book.keeper (moment book.keeper) image
-      → OpensTo opens (rows_of book.log) (tried book.keeper) image
+  pub none : keepers.tried book.opened ≡ []
+  pub first : IfSome (keepers.rows book.opened) (λ told. rows_of book.log ≡ told)
+  pub between : (image : List ℕ) → keepers.left_since book.keeper (keepers.moment book.keeper) image
+      → OpensTo keepers.opens (rows_of book.log) (keepers.tried book.keeper) image
 
 -- the row of this number, of this kind, is the first bad one; so the rows are no legal history's
 pub record IsBadStore (rows : List Row) (row kind : ℕ) : Type 0 where

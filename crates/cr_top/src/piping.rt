@@ -30,12 +30,12 @@ pub fn pipe<R: Wait, K: Keeper, I: Source, O: Sink, C: Clock>(
     clock: &mut C,
 ) -> (Ending, K)
     ensures pipes { let outside = outside_of I.faults O.taken O.faults C.coming C.faults in
-        let keeps = KeepsSince K.tells_stops K.rows K.tried K.moment K.left_since K.opens book result.1 in
+        let keeps = KeepsSince K.Keeper book result.1 in
         Pipes K.rows keeps K.faults I.left I.read_gives book.log result.0 book.keeper result.1
         (outside input.old out.old clock.old) (outside input.new out.new clock.new) }
 
     ensures alike { K.kind result.1 ≡ K.kind book.opened }
-    ensures counted { IsTrue (K.tells_stops result.1) → CountsTried K.faults K.tried book.opened result.1 }
+    ensures counted { IsTrue (K.tells_stops result.1) → CountsTried K.Keeper book.opened result.1 }
 
     // Where nothing fails, the keeper's calls included, all that the input's bytes spell is answered,
     // or memory runs out.

@@ -53,8 +53,7 @@ fn do_job<R: Threads + Wait + Sync, I: Source, O: Sink, S: Shelf, G: Gates, C: C
     ensures does { let around = around_of I.faults O.taken O.faults C.coming C.faults S.rows S.faults G.faults G.logs
         G.asked in
         let keeps = keeping_of (S.tells_stops shelf.old) S.Keeper.opens (S.left shelf.new) in
-        let tries = tries_of S.Keeper.tells_stops S.Keeper.rows S.Keeper.tried S.Keeper.moment S.Keeper.left_since
-        S.Keeper.opens in
+        let tries = tries_of S.Keeper.Keeper in
         Does (S.tells_stops shelf.old) keeps I.left I.read_gives
         (streams_of tries G.Door.In.left G.Door.In.read_gives G.Door.In.faults G.Door.Out.taken G.Door.Out.faults
         G.Door.Clock.coming G.Door.Clock.faults)
@@ -113,8 +112,7 @@ fn run_words<R: Threads + Wait + Sync, I: Source, O: Sink, S: Shelf, G: Gates, C
     ensures does { let around = around_of I.faults O.taken O.faults C.coming C.faults S.rows S.faults G.faults G.logs
         G.asked in
         let keeps = keeping_of (S.tells_stops shelf.old) S.Keeper.opens (S.left shelf.new) in
-        let tries = tries_of S.Keeper.tells_stops S.Keeper.rows S.Keeper.tried S.Keeper.moment S.Keeper.left_since
-        S.Keeper.opens in
+        let tries = tries_of S.Keeper.Keeper in
         (job : NamedJob) → AreFor words.now job
         → Does (S.tells_stops shelf.old) keeps I.left I.read_gives
         (streams_of tries G.Door.In.left G.Door.In.read_gives G.Door.In.faults G.Door.Out.taken G.Door.Out.faults
@@ -188,8 +186,7 @@ pub fn top<R: Threads + Wait + Sync, I: Source, O: Sink, S: Shelf, G: Gates, C: 
     ensures { let around = around_of I.faults O.taken O.faults C.coming C.faults S.rows S.faults G.faults G.logs
         G.asked in
         let keeps = keeping_of (S.tells_stops shelf.old) S.Keeper.opens (S.left shelf.new) in
-        let tries = tries_of S.Keeper.tells_stops S.Keeper.rows S.Keeper.tried S.Keeper.moment S.Keeper.left_since
-        S.Keeper.opens in
+        let tries = tries_of S.Keeper.Keeper in
         RunsProgram words.now (S.tells_stops shelf.old) keeps I.left I.read_gives
         (streams_of tries G.Door.In.left G.Door.In.read_gives G.Door.In.faults G.Door.Out.taken G.Door.Out.faults
         G.Door.Clock.coming G.Door.Clock.faults)

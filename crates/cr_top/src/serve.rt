@@ -96,14 +96,13 @@ fn serve_open_book<R: Threads + Wait + Sync, S: Shelf, G: Gates, O: Sink>(
     requires open { S.has_opened shelf.old path.now (S.Keeper.kind book.opened) }
     ensures { let outlet = outlet_of O.taken O.faults in let stores = state_of S.rows S.faults in
         let gates_at = gates_of G.faults G.logs G.asked in
-        let tries = tries_of S.Keeper.tells_stops S.Keeper.rows S.Keeper.tried S.Keeper.moment S.Keeper.left_since
-        S.Keeper.opens in
+        let tries = tries_of S.Keeper.Keeper in
         (tells : List ℕ → Bool) → S.Keeper.tells_stops book.opened ≡ tells path.now
         → (s : ShelfState) → OpensStore S.Keeper.rows S.Keeper.faults path.now book s (stores shelf.old)
         → (g : GatesState G.Door.In G.Door.Out G.Door.Clock) → (listen : List ℕ) → OpensAt listen g (gates_at gates.old)
         → (workers connections : ℕ) → map G.Door.left doors.items ≡ shares workers connections
         → (IsTrue (tells path.now)
-        → BeginsAt S.Keeper.rows S.Keeper.tried S.Keeper.moment S.Keeper.left_since S.Keeper.opens
+        → BeginsAt S.Keeper.Keeper
         (S.opened_at shelf.old path.now) book)
         → ServesMany (keeping_of tells S.Keeper.opens (S.left shelf.new) path.now) path.now
         (streams_of tries G.Door.In.left G.Door.In.read_gives G.Door.In.faults G.Door.Out.taken G.Door.Out.faults
@@ -136,8 +135,7 @@ pub fn serve_store<R: Threads + Wait + Sync, S: Shelf, G: Gates, O: Sink>(
     ensures serves { let outlet = outlet_of O.taken O.faults in let stores = state_of S.rows S.faults in
         let gates_at = gates_of G.faults G.logs G.asked in
         let keeps = keeping_of (S.tells_stops shelf.old) S.Keeper.opens (S.left shelf.new) path.now in
-        let tries = tries_of S.Keeper.tells_stops S.Keeper.rows S.Keeper.tried S.Keeper.moment S.Keeper.left_since
-        S.Keeper.opens in
+        let tries = tries_of S.Keeper.Keeper in
         ServesGates (S.tells_stops shelf.old path.now) keeps path.now
         (streams_of tries G.Door.In.left G.Door.In.read_gives G.Door.In.faults G.Door.Out.taken G.Door.Out.faults
         G.Door.Clock.coming G.Door.Clock.faults)

@@ -52,7 +52,7 @@ pub(crate) fn open_store<S: Shelf>(
     ensures telling { IfOk result
         (λ book. S.Keeper.tells_stops book.opened ≡ S.tells_stops shelf.old path.now) }
     ensures begins { IsTrue (S.tells_stops shelf.old path.now) → IfOk result
-        (λ book. BeginsAt S.Keeper.rows S.Keeper.tried S.Keeper.moment S.Keeper.left_since S.Keeper.opens
+        (λ book. BeginsAt S.Keeper.Keeper
         (S.opened_at shelf.new path.now) book) }
     ensures open { IfOk result (λ book. S.has_opened shelf.new path.now (S.Keeper.kind book.opened)) }
     ensures refused { IfErr result

@@ -26,7 +26,7 @@ fn serve_last<R: Wait, K: Keeper, D: Door + Drop>(
     requires own { pass.lock ≡ server.now.lock.lock }
     requires last { length doors.items ≤ 1 }
     requires ready { AreReady D.left D.is_out doors.items pass.turns }
-    ensures serves { let tries = tries_of K.tells_stops K.rows K.tried K.moment K.left_since K.opens in
+    ensures serves { let tries = tries_of K.Keeper in
         ServesSeen (door_of D.left D.is_out D.faults D.log)
         (streams_of tries D.In.left D.In.read_gives D.In.faults D.Out.taken D.Out.faults D.Clock.coming D.Clock.faults)
         result.2 doors.items result.1.items pass result.0 }
@@ -98,7 +98,7 @@ pub(crate) fn serve_doors<R: Threads + Wait + Sync, K: Keeper + Send, D: Door + 
     requires own { pass.lock ≡ server.now.lock.lock }
     requires share { length doors.items ≤ pass.share }
     requires ready { AreReady D.left D.is_out doors.items pass.turns }
-    ensures serves { let tries = tries_of K.tells_stops K.rows K.tried K.moment K.left_since K.opens in
+    ensures serves { let tries = tries_of K.Keeper in
         ServesSeen (door_of D.left D.is_out D.faults D.log)
         (streams_of tries D.In.left D.In.read_gives D.In.faults D.Out.taken D.Out.faults D.Clock.coming D.Clock.faults)
         result.2 doors.items result.1.items pass result.0 }
@@ -119,7 +119,7 @@ pub(crate) fn serve_doors<R: Threads + Wait + Sync, K: Keeper + Send, D: Door + 
     let first_half = move || -> (Pass<Book<K>>, Vec<D>, Worked)
         requires { IsSync R.row × (larger.lock ≡ server.now.lock.lock) × (length front.items ≤ larger.share)
             × AreReady D.left D.is_out front.items larger.turns }
-        ensures serves { let tries = tries_of K.tells_stops K.rows K.tried K.moment K.left_since K.opens in
+        ensures serves { let tries = tries_of K.Keeper in
             ServesSeen (door_of D.left D.is_out D.faults D.log)
             (streams_of tries D.In.left D.In.read_gives D.In.faults D.Out.taken D.Out.faults D.Clock.coming
             D.Clock.faults)
@@ -131,7 +131,7 @@ pub(crate) fn serve_doors<R: Threads + Wait + Sync, K: Keeper + Send, D: Door + 
     let second_half = move || -> (Pass<Book<K>>, Vec<D>, Worked)
         requires { IsSync R.row × (smaller.lock ≡ server.now.lock.lock) × (length back.items ≤ smaller.share)
             × AreReady D.left D.is_out back.items smaller.turns }
-        ensures serves { let tries = tries_of K.tells_stops K.rows K.tried K.moment K.left_since K.opens in
+        ensures serves { let tries = tries_of K.Keeper in
             ServesSeen (door_of D.left D.is_out D.faults D.log)
             (streams_of tries D.In.left D.In.read_gives D.In.faults D.Out.taken D.Out.faults D.Clock.coming
             D.Clock.faults)

@@ -36,7 +36,7 @@ pub fn serve_book<R: Threads + Wait + Sync, K: Keeper + Send, D: Door + Drop + S
     requires few { turns_for (total D.left doors.items) ≤ 2 ^ 40 }
     requires back { Every (λ door. D.is_out door ≡ false) doors.items }
     ensures opened { result.1.opened ≡ book.opened }
-    ensures serves { let tries = tries_of K.tells_stops K.rows K.tried K.moment K.left_since K.opens in
+    ensures serves { let tries = tries_of K.Keeper in
         let seen = map (door_of D.left D.is_out D.faults D.log) in
         ServesHistory
         (streams_of tries D.In.left D.In.read_gives D.In.faults D.Out.taken D.Out.faults D.Clock.coming D.Clock.faults)

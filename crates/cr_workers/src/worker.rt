@@ -30,7 +30,7 @@ fn serve_next_connection<R: Wait, K: Keeper, D: Door>(
     requires own { pass.old.lock ≡ server.now.lock.lock }
     requires few { pass.old.turns + turns_for (D.left door.old) ≤ 2 ^ 40 }
     requires back { IsFalse (D.is_out door.old) }
-    ensures serves { let tries = tries_of K.tells_stops K.rows K.tried K.moment K.left_since K.opens in
+    ensures serves { let tries = tries_of K.Keeper in
         let seen = door_of D.left D.is_out D.faults D.log in
         ServesNext
         (streams_of tries D.In.left D.In.read_gives D.In.faults D.Out.taken D.Out.faults D.Clock.coming D.Clock.faults)
@@ -85,7 +85,7 @@ pub(crate) fn serve_door<R: Wait, K: Keeper, D: Door>(
     requires own { pass.old.lock ≡ server.now.lock.lock }
     requires few { pass.old.turns + turns_for (D.left door.old) ≤ 2 ^ 40 }
     requires back { IsFalse (D.is_out door.old) }
-    ensures serves { let tries = tries_of K.tells_stops K.rows K.tried K.moment K.left_since K.opens in
+    ensures serves { let tries = tries_of K.Keeper in
         ServesSeen (door_of D.left D.is_out D.faults D.log)
         (streams_of tries D.In.left D.In.read_gives D.In.faults D.Out.taken D.Out.faults D.Clock.coming D.Clock.faults)
         result (door.old ∷ []) (door.new ∷ []) pass.old pass.new }

@@ -5,4 +5,4 @@ use Rattle.cr_session.proofs.laws.law_marked_losses.Goals as goal
 pub returns : goal.returns
 returns g c =
     let K = g.K.Keeper in
-    marked_losses (tries_of K.tells_stops K.rows K.tried K.moment K.left_since K.opens)
+    marked_losses (tries_of K)

@@ -14,8 +14,7 @@ use Rattle.cr_session.proofs.serve.serve_connection.Goals as goal
 
 -- what turns do with the keeper
 abbrev tries-here : (g : Over) → Tries g.row.K.Denot
-tries-here g = tries_of g.K.Keeper.tells_stops g.K.Keeper.rows g.K.Keeper.tried g.K.Keeper.moment g.K.Keeper.left_since
-    g.K.Keeper.opens
+tries-here g = tries_of g.K.Keeper
 
 pub returns-in_default-clause-connection : goal.returns-in_default-clause-connection
 returns-in_default-clause-connection g c =

@@ -8,7 +8,7 @@ abbrev pub invariant-serving : goal.invariant-serving
 invariant-serving g l =
     let world = world_of g.S.Source.faults g.O.Sink.taken g.O.Sink.faults g.C.Clock.coming g.C.Clock.faults in
     let K = g.K.Keeper in
-    let tries = tries_of K.tells_stops K.rows K.tried K.moment K.left_since K.opens in
+    let tries = tries_of K in
     record {
       goes_on : GoesOnInHistory tries g.S.Source.left g.S.Source.read_gives l.number 0 [] l.space.inbox
           (world l.initial.pass l.initial.source l.initial.sink l.initial.clock) (world l.pass l.source l.sink l.clock);

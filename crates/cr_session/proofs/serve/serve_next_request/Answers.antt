@@ -12,7 +12,7 @@ returns-in-Goes-clause-round g c =
     let w = world c.args.pass.now c.args.source.now c.args.sink.now c.args.clock.now in
     let w' = world c.serve_request.new.pass c.read_wish.new.source c.serve_request.new.sink c.read_wish.new.clock in
     let K = g.K.Keeper in
-    let tries = tries_of K.tells_stops K.rows K.tried K.moment K.left_since K.opens in
+    let tries = tries_of K in
     subst (λ (inbox : List ℕ). GoesOnInHistory tries g.S.Source.left g.S.Source.read_gives 1 c.args.number
     c.args.space.now.inbox inbox w w')
     (sym c.serve_request.ensures.inbox)

@@ -10,7 +10,7 @@ use Rattle.cr_session.proofs.serve.serve_request.Goals as goal
 pub returns-in-Ok-clause-serves : goal.returns-in-Ok-clause-serves
 returns-in-Ok-clause-serves g c =
     let K = g.K.Keeper in
-    let tries = tries_of K.tells_stops K.rows K.tried K.moment K.left_since K.opens in
+    let tries = tries_of K in
     let t = c.in_turn-turn.ensures in
     let turn = c.in_turn-turn.result in
     let close = c.closes-close.result in
@@ -29,7 +29,7 @@ returns-in-Ok-clause-serves g c =
 pub returns-clause-serves : goal.returns-clause-serves
 returns-clause-serves g c =
     let K = g.K.Keeper in
-    let tries = tries_of K.tells_stops K.rows K.tried K.moment K.left_since K.opens in
+    let tries = tries_of K in
     let t = c.in_turn-turn.ensures in (
       refl,
       unprinted tries c.args.wish (ledger_of K.faults t.0) (ledger_of K.faults t.1) t.0 t.1 c.args.pass.now
@@ -40,7 +40,7 @@ returns-clause-serves g c =
 pub returns-in-OutOfMemory-clause-serves : goal.returns-in-OutOfMemory-clause-serves
 returns-in-OutOfMemory-clause-serves g c =
     let K = g.K.Keeper in
-    let tries = tries_of K.tells_stops K.rows K.tried K.moment K.left_since K.opens in
+    let tries = tries_of K in
     let t = c.in_turn-turn.ensures in (
       refl,
       turned_in_vain tries c.args.wish (ledger_of K.faults t.0) (ledger_of K.faults t.1) t.0 t.1 c.args.pass.now

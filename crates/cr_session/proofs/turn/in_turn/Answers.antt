@@ -8,7 +8,7 @@ use Rattle.cr_session.proofs.turn.in_turn.Goals as goal
 pub returns : goal.returns
 returns g c =
     let K = g.K.Keeper in
-    let tries = tries_of K.tells_stops K.rows K.tried K.moment K.left_since K.opens in
+    let tries = tries_of K in
     let w = c.args.wish in
     let r = c.turn.result in
     let t = c.turn.ensures.turn in

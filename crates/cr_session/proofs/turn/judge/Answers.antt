@@ -18,7 +18,7 @@ returns-in-Ok-clause-tried g c =
     let b' = c.command.new.self in
     let outcome =
     decide (view c.args.caller.now b.log) (call_of c.args.caller.now c.args.at c.args.key c.args.command) in
-    tries-kept K.tells_stops K.rows K.tried K.moment K.left_since K.opens c.command.result b.log b.keeper b'.keeper
+    tries-kept K c.command.result b.log b.keeper b'.keeper
     c.in-Ok.receipt (drawn_by outcome) c.in-Ok.is
     (accepted-still outcome b b' c.in-Ok.receipt c.in-Ok.ensures.accepted c.command.ensures.repeat_stays)
     c.command.ensures.stops
@@ -30,7 +30,7 @@ returns-in-Err-Broken-clause-tried g c =
     let b' = c.command.new.self in
     let outcome =
     decide (view c.args.caller.now b.log) (call_of c.args.caller.now c.args.at c.args.key c.args.command) in
-    nothing-drawn K.tells_stops K.rows K.tried K.moment K.left_since K.opens false b.log (drawn_by outcome) b.keeper
+    nothing-drawn K false b.log (drawn_by outcome) b.keeper
     b'.keeper
     (ap drawn_by (c.command.ensures.only_rule c.in-Err-Broken.rule
     (c.in-Err-Broken.is ∙ ap Err c.in-Err-Broken.field-0-is)))
@@ -44,7 +44,7 @@ returns-in-Err-KeeperFault-clause-tried g c =
     let b' = c.command.new.self in
     let outcome =
     decide (view c.args.caller.now b.log) (call_of c.args.caller.now c.args.at c.args.key c.args.command) in
-    tries-refused K.tells_stops K.rows K.tried K.moment K.left_since K.opens c.command.result b.log b.keeper b'.keeper
+    tries-refused K c.command.result b.log b.keeper b'.keeper
     errors.KeeperFault (drawn_by outcome) (c.in-Err-KeeperFault.is ∙ ap Err c.in-Err-KeeperFault.field-0-is)
     (c.command.ensures.lost (c.in-Err-KeeperFault.is ∙ ap Err c.in-Err-KeeperFault.field-0-is)) c.command.ensures.stops
 

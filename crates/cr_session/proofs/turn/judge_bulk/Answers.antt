@@ -17,7 +17,7 @@ returns-clause-changes g c =
 pub returns-clause-tried : goal.returns-clause-tried
 returns-clause-tried g c =
     let K = g.K.Keeper in
-    let tries = tries_of K.tells_stops K.rows K.tried K.moment K.left_since K.opens in
+    let tries = tries_of K in
     subst (λ (u : Option ℕ). TurnTries tries c.judge_rows.result c.args.book.now.log
     (drawn_by (decide_bulk (view u c.args.book.now.log) (bulk_by (maker_of u) c.args.at c.args.key c.args.rows)))
     c.args.book.now.keeper c.judge_rows.new.book.keeper)

@@ -14,7 +14,7 @@ returns-in-Ok-clause-tried g c =
     let b = c.args.book.now in
     let b' = c.bulk.new.self in
     let outcome = decide_bulk (view (Some c.args.user) b.log) (bulk_by c.args.user c.args.at c.args.key c.args.rows) in
-    tries-kept K.tells_stops K.rows K.tried K.moment K.left_since K.opens c.bulk.result b.log b.keeper b'.keeper
+    tries-kept K c.bulk.result b.log b.keeper b'.keeper
     c.in-Ok.count_told (drawn_by outcome) c.in-Ok.is
     (accepted-still outcome b b' c.in-Ok.count_told c.in-Ok.ensures.accepted c.bulk.ensures.repeat_stays)
     c.bulk.ensures.stops
@@ -25,7 +25,7 @@ returns-in-Err-Broken-clause-tried g c =
     let b = c.args.book.now in
     let b' = c.bulk.new.self in
     let outcome = decide_bulk (view (Some c.args.user) b.log) (bulk_by c.args.user c.args.at c.args.key c.args.rows) in
-    nothing-drawn K.tells_stops K.rows K.tried K.moment K.left_since K.opens false b.log (drawn_by outcome) b.keeper
+    nothing-drawn K false b.log (drawn_by outcome) b.keeper
     b'.keeper
     (ap drawn_by (c.bulk.ensures.only_broken c.in-Err-Broken.broken
     (c.in-Err-Broken.is ∙ ap Err c.in-Err-Broken.field-0-is)))
@@ -38,7 +38,7 @@ returns-in-Err-KeeperFault-clause-tried g c =
     let b = c.args.book.now in
     let b' = c.bulk.new.self in
     let outcome = decide_bulk (view (Some c.args.user) b.log) (bulk_by c.args.user c.args.at c.args.key c.args.rows) in
-    tries-refused K.tells_stops K.rows K.tried K.moment K.left_since K.opens c.bulk.result b.log b.keeper b'.keeper
+    tries-refused K c.bulk.result b.log b.keeper b'.keeper
     errors.KeeperFault (drawn_by outcome) (c.in-Err-KeeperFault.is ∙ ap Err c.in-Err-KeeperFault.field-0-is)
     (c.bulk.ensures.lost (c.in-Err-KeeperFault.is ∙ ap Err c.in-Err-KeeperFault.field-0-is)) c.bulk.ensures.stops
 

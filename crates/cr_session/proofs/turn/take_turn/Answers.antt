@@ -15,8 +15,7 @@ use Rattle.cr_session.proofs.turn.take_turn.Goals as goal
 
 -- what turns do with the keeper
 abbrev tries-here : (g : Over) → Tries g.row.K.Denot
-tries-here g = tries_of g.K.Keeper.tells_stops g.K.Keeper.rows g.K.Keeper.tried g.K.Keeper.moment g.K.Keeper.left_since
-    g.K.Keeper.opens
+tries-here g = tries_of g.K.Keeper
 
 pub returns-then-is_unauthorized-clause-turns : goal.returns-then-is_unauthorized-clause-turns
 returns-then-is_unauthorized-clause-turns g c =
@@ -105,56 +104,49 @@ returns-in-Bulk-clause-turns g c =
 
 pub returns-then-is_unauthorized-clause-tried : goal.returns-then-is_unauthorized-clause-tried
 returns-then-is_unauthorized-clause-tried g c =
-    nothing-drawn g.K.Keeper.tells_stops g.K.Keeper.rows g.K.Keeper.tried g.K.Keeper.moment g.K.Keeper.left_since
-    g.K.Keeper.opens false
+    nothing-drawn g.K.Keeper false
     c.args.book.now.log (drawn c.args.book.now.log c.args.wish) c.args.book.now.keeper c.args.book.now.keeper
     (unauthorized-draws c.args.wish c.args.book.now.log _ c.caller_of-caller.ensures
     (sym c.is_unauthorized.ensures ∙ c.if-is_unauthorized.true)) refl
 
 pub returns-in-NoRoute-clause-tried : goal.returns-in-NoRoute-clause-tried
 returns-in-NoRoute-clause-tried g c =
-    nothing-drawn g.K.Keeper.tells_stops g.K.Keeper.rows g.K.Keeper.tried g.K.Keeper.moment g.K.Keeper.left_since
-    g.K.Keeper.opens false
+    nothing-drawn g.K.Keeper false
     c.args.book.now.log (drawn c.args.book.now.log c.args.wish) c.args.book.now.keeper c.args.book.now.keeper
     (drawn-by _ _ _ _ (may-wish _ c.args.wish _ _ _ c.in-NoRoute.is c.caller_of-caller.ensures c.is_unauthorized.ensures
     c.if-is_unauthorized.false)) refl
 
 pub returns-in-WrongMethod-clause-tried : goal.returns-in-WrongMethod-clause-tried
 returns-in-WrongMethod-clause-tried g c =
-    nothing-drawn g.K.Keeper.tells_stops g.K.Keeper.rows g.K.Keeper.tried g.K.Keeper.moment g.K.Keeper.left_since
-    g.K.Keeper.opens false
+    nothing-drawn g.K.Keeper false
     c.args.book.now.log (drawn c.args.book.now.log c.args.wish) c.args.book.now.keeper c.args.book.now.keeper
     (drawn-by _ _ _ _ (may-wish _ c.args.wish _ _ _ c.in-WrongMethod.is c.caller_of-caller.ensures
     c.is_unauthorized.ensures c.if-is_unauthorized.false)) refl
 
 pub returns-in-BadNumber-clause-tried : goal.returns-in-BadNumber-clause-tried
 returns-in-BadNumber-clause-tried g c =
-    nothing-drawn g.K.Keeper.tells_stops g.K.Keeper.rows g.K.Keeper.tried g.K.Keeper.moment g.K.Keeper.left_since
-    g.K.Keeper.opens false
+    nothing-drawn g.K.Keeper false
     c.args.book.now.log (drawn c.args.book.now.log c.args.wish) c.args.book.now.keeper c.args.book.now.keeper
     (drawn-by _ _ _ _ (may-wish _ c.args.wish _ _ _ c.in-BadNumber.is c.caller_of-caller.ensures
     c.is_unauthorized.ensures c.if-is_unauthorized.false)) refl
 
 pub returns-in-BadBody-clause-tried : goal.returns-in-BadBody-clause-tried
 returns-in-BadBody-clause-tried g c =
-    nothing-drawn g.K.Keeper.tells_stops g.K.Keeper.rows g.K.Keeper.tried g.K.Keeper.moment g.K.Keeper.left_since
-    g.K.Keeper.opens false
+    nothing-drawn g.K.Keeper false
     c.args.book.now.log (drawn c.args.book.now.log c.args.wish) c.args.book.now.keeper c.args.book.now.keeper
     (drawn-by _ _ _ _ (may-wish _ c.args.wish _ _ _ c.in-BadBody.is c.caller_of-caller.ensures c.is_unauthorized.ensures
     c.if-is_unauthorized.false)) refl
 
 pub returns-in-BadQuery-clause-tried : goal.returns-in-BadQuery-clause-tried
 returns-in-BadQuery-clause-tried g c =
-    nothing-drawn g.K.Keeper.tells_stops g.K.Keeper.rows g.K.Keeper.tried g.K.Keeper.moment g.K.Keeper.left_since
-    g.K.Keeper.opens false
+    nothing-drawn g.K.Keeper false
     c.args.book.now.log (drawn c.args.book.now.log c.args.wish) c.args.book.now.keeper c.args.book.now.keeper
     (drawn-by _ _ _ _ (may-wish _ c.args.wish _ _ _ c.in-BadQuery.is c.caller_of-caller.ensures
     c.is_unauthorized.ensures c.if-is_unauthorized.false)) refl
 
 pub returns-in-Query-clause-tried : goal.returns-in-Query-clause-tried
 returns-in-Query-clause-tried g c =
-    tries-nothing g.K.Keeper.tells_stops g.K.Keeper.rows g.K.Keeper.tried g.K.Keeper.moment g.K.Keeper.left_since
-    g.K.Keeper.opens c.answer.result
+    tries-nothing g.K.Keeper c.answer.result
     c.args.book.now.log (drawn c.args.book.now.log c.args.wish) c.args.book.now.keeper c.args.book.now.keeper
     (drawn-by _ _ _ _ (may-wish _ c.args.wish _ _ _ c.in-Query.is c.caller_of-caller.ensures c.is_unauthorized.ensures
     c.if-is_unauthorized.false)) refl

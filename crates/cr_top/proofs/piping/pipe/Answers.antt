@@ -17,13 +17,11 @@ use Rattle.cr_top.proofs.piping.pipe.Goals as goal
 -- what is kept since the opening of a book
 abbrev keeps-here : (g : Over) → SeenBook g.row.K.Denot → g.row.K.Denot → Keeps
 keeps-here g book now =
-    KeepsSince g.K.Keeper.tells_stops g.K.Keeper.rows g.K.Keeper.tried g.K.Keeper.moment g.K.Keeper.left_since
-    g.K.Keeper.opens book now
+    KeepsSince g.K.Keeper book now
 
 -- what turns do with the keeper
 abbrev tries-here : (g : Over) → Tries g.row.K.Denot
-tries-here g = tries_of g.K.Keeper.tells_stops g.K.Keeper.rows g.K.Keeper.tried g.K.Keeper.moment g.K.Keeper.left_since
-    g.K.Keeper.opens
+tries-here g = tries_of g.K.Keeper
 
 pub returns-in-Err-clause-pipes : goal.returns-in-Err-clause-pipes
 returns-in-Err-clause-pipes g c =
@@ -38,13 +36,13 @@ returns-in-Err-clause-pipes g c =
     same c.note_no_memory.ensures.ending c.note_no_memory.ensures.notes refl refl c.close.ensures.same
     c.close.ensures.legal c.close.ensures.kept
     (λ judged. (
-      subst (λ (b : SeenBook g.row.K.Denot). KeepsTold K.rows K.tried K.moment K.left_since K.opens K.tells_stops
+      subst (λ (b : SeenBook g.row.K.Denot). KeepsTold K
           b.opened c.close.result c.in-Err.book.log) same
           c.close.ensures.stops,
-      subst (λ (k : g.row.K.Denot). KeepsWishesTold K.tells_stops K.tried K.moment K.left_since K.opens
+      subst (λ (k : g.row.K.Denot). KeepsWishesTold K
           c.args.book.keeper k c.args.book.log c.in-Err.book.log judged)
           (sym (c.close.ensures.same ∙ ap (λ (b : SeenBook g.row.K.Denot). b.keeper) same))
-          (wishes-none K.tells_stops K.rows K.tried K.moment K.left_since K.opens c.args.book.keeper c.args.book.log
+          (wishes-none K c.args.book.keeper c.args.book.log
           c.in-Err.book.log judged),
     ))
 
@@ -71,14 +69,14 @@ returns-clause-pipes g c =
     g.I.Source.read_gives c.serve_connection-ending.result book
     x c.close-2.result p p' o o' seen bare closes c.close-2.ensures.same c.close-2.ensures.legal c.close-2.ensures.kept
     connection (
-      subst (λ (k : g.row.K.Denot). KeepsTold K.rows K.tried K.moment K.left_since K.opens K.tells_stops k
+      subst (λ (k : g.row.K.Denot). KeepsTold K k
           c.close-2.result x.log)
           (c.close-book.ensures.root ∙ ap (λ (b : SeenBook g.row.K.Denot). b.opened) made.0) c.close-2.ensures.stops,
-      subst (λ (k : g.row.K.Denot). KeepsWishesTold K.tells_stops K.tried K.moment K.left_since K.opens book.keeper k
+      subst (λ (k : g.row.K.Denot). KeepsWishesTold K book.keeper k
           book.log x.log
           (connection.answered ++ listed connection.failed))
           (sym c.close-2.ensures.same)
-          (stops-closed K.tells_stops K.rows K.tried K.moment K.left_since K.opens
+          (stops-closed K
           (λ (b : SeenBook g.row.K.Denot). b.log)
           (λ (b : SeenBook g.row.K.Denot). K.faults b.keeper) (λ (b : SeenBook g.row.K.Denot). b.opened) book x
           g.I.Source.left g.I.Source.read_gives
@@ -106,7 +104,7 @@ returns-in-Err-clause-alike g c =
 
 pub returns-in-Err-clause-counted : goal.returns-in-Err-clause-counted
 returns-in-Err-clause-counted g c = λ told.
-    subst (λ (b : SeenBook g.row.K.Denot). CountsTried g.K.Keeper.faults g.K.Keeper.tried b.opened c.close.result)
+    subst (λ (b : SeenBook g.row.K.Denot). CountsTried g.K.Keeper b.opened c.close.result)
     c.in-Err.ensures (c.close.ensures.counted told)
 
 pub returns-clause-alike : goal.returns-clause-alike
@@ -117,6 +115,6 @@ returns-clause-alike g c =
 
 pub returns-clause-counted : goal.returns-clause-counted
 returns-clause-counted g c = λ told.
-    subst (λ (k : g.row.K.Denot). CountsTried g.K.Keeper.faults g.K.Keeper.tried k c.close-2.result)
+    subst (λ (k : g.row.K.Denot). CountsTried g.K.Keeper k c.close-2.result)
     (c.close-book.ensures.root ∙ ap (λ (b : SeenBook g.row.K.Denot). b.opened) c.in-Ok.ensures.0)
     (c.close-2.ensures.counted told)

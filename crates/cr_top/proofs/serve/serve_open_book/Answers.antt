@@ -58,27 +58,27 @@ returns g c tells so s opens before listen at workers connections shared begins 
     (map (door_of left is_out faults log) c.args.doors.items) (map (door_of left is_out faults log) worked.2.items) o o'
     s (stores c.args.shelf.now) (stores c.shut-2.new.self) before (gates_at c.args.gates.now) (gates_at c.shut.new.self)
     at opens c.close.ensures.same c.close.ensures.legal
-    (keeps-store (tells path) K.tells_stops K.rows K.tried K.moment K.left_since K.opens
-    (g.S.Shelf.left c.shut-2.new.self) _ K.faults path c.args.book
-    c.close.result s (stores c.args.shelf.now) (stores c.shut-2.new.self) K.rows_told so so'
+    (keeps-store (tells path) K
+    (g.S.Shelf.left c.shut-2.new.self) _ path c.args.book
+    c.close.result s (stores c.args.shelf.now) (stores c.shut-2.new.self) so so'
     (K.rows_alike c.close.result c.args.book.opened alike) begins
     (λ told image. (c.shut-2.ensures.stops told image).0) opens stands c.shut-2.ensures.others
     c.shut-2.ensures.count
     worked.1.log c.close.ensures.kept
-    (subst (λ (k : g.row.S-Keeper.Denot). KeepsTold K.rows K.tried K.moment K.left_since K.opens K.tells_stops k
+    (subst (λ (k : g.row.S-Keeper.Denot). KeepsTold K k
     c.close.result worked.1.log)
     c.serve_book-ended.ensures.opened c.close.ensures.stops)
-    (λ told. subst (λ (k : g.row.S-Keeper.Denot). CountsTried K.faults K.tried k c.close.result)
+    (λ told. subst (λ (k : g.row.S-Keeper.Denot). CountsTried K k c.close.result)
     c.serve_book-ended.ensures.opened (c.close.ensures.counted told)))
     stands c.shut-2.ensures.others c.shut-2.ensures.count
-    (exact-rows (tells path) K.tells_stops K.rows K.tried K.moment K.left_since K.opens
-    (g.S.Shelf.left c.shut-2.new.self) _ K.faults path c.args.book
-    c.close.result s (stores c.args.shelf.now) (stores c.shut-2.new.self) K.rows_told so so'
+    (exact-rows (tells path) K
+    (g.S.Shelf.left c.shut-2.new.self) _ path c.args.book
+    c.close.result s (stores c.args.shelf.now) (stores c.shut-2.new.self) so so'
     (K.rows_alike c.close.result c.args.book.opened alike) begins
     (λ told image. (c.shut-2.ensures.stops told image).0) opens stands c.shut-2.ensures.others
     c.shut-2.ensures.count
     worked.1.log c.close.ensures.kept
-    (λ told. subst (λ (k : g.row.S-Keeper.Denot). CountsTried K.faults K.tried k c.close.result)
+    (λ told. subst (λ (k : g.row.S-Keeper.Denot). CountsTried K k c.close.result)
     c.serve_book-ended.ensures.opened (c.close.ensures.counted told)))
     (shared-seen left is_out faults log c.args.doors.items _ shared) c.requires.new c.serve_book-ended.ensures.serves
     (subst (λ (n : ℕ). TellsEntries (is_ok c.tell_entries.result) n o o') c.entries-entries.ensures.value

@@ -80,7 +80,7 @@ returns-in-Err-open_gates-clause-serves g c =
           (stores c.args.shelf.now) (stores c.open_store.new.shelf) (stores c.shut.new.self) (gates_at c.args.gates.now)
           (gates_at c.open_gates.new.gates)
           c.in-Ok.ensures.opened c.close.ensures.same
-          (none-tried tells K.rows K.tried K.moment K.left_since K.opens _ c.in-Ok.book c.close.result
+          (none-tried tells K _ c.in-Ok.book c.close.result
           c.in-Ok.ensures.begins c.close.ensures.same)
           (stands-by (K.tells_stops c.close.result) tells so' (K.rows c.close.result) (K.tried c.close.result)
           (g.S.Shelf.rows c.open_store.new.shelf path) (g.S.Shelf.rows c.shut.new.self path) c.shut.ensures.kept)

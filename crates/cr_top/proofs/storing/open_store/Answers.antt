@@ -62,7 +62,7 @@ pub returns-in-Ok-open-clause-begins : goal.returns-in-Ok-open-clause-begins
 returns-in-Ok-open-clause-begins g c = λ told.
     let K = g.S.Keeper.Keeper in
     let yes = c.in-Ok.ensures.telling ∙ told in
-    begins-at K.rows K.tried K.moment K.left_since K.opens (g.S.Shelf.opened_at c.open.new.self c.args.path.now)
+    begins-at K (g.S.Shelf.opened_at c.open.new.self c.args.path.now)
     c.in-Ok.keeper c.in-Ok-open.book c.in-Ok-open.ensures.opened (c.in-Ok-open.ensures.still yes)
     (c.in-Ok.ensures.begins yes).0 (c.in-Ok.ensures.begins yes).1 c.in-Ok-open.ensures.exact
     (c.in-Ok-open.ensures.between yes)

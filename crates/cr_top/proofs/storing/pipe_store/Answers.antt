@@ -34,18 +34,18 @@ returns-in-Ok-clause-pipes g c =
     (outside c.pipe-ending.new.input c.pipe-ending.new.out c.pipe-ending.new.clock) s m s'
     c.in-Ok.ensures.opened c.pipe-ending.ensures.pipes stands c.shut.ensures.others c.shut.ensures.count
     (λ history is judged so. (
-      keeps-store tells K.tells_stops K.rows K.tried K.moment K.left_since K.opens (g.S.Shelf.left c.shut.new.self) _
-          K.faults path c.in-Ok.book keeper' s m s' K.rows_told c.in-Ok.ensures.telling so' alike
+      keeps-store tells K
+          (g.S.Shelf.left c.shut.new.self) _ path c.in-Ok.book keeper' s m s' c.in-Ok.ensures.telling so' alike
           c.in-Ok.ensures.begins (λ told image. (c.shut.ensures.stops told image).0) c.in-Ok.ensures.opened stands
           c.shut.ensures.others c.shut.ensures.count history is so.0 c.pipe-ending.ensures.counted,
-      wishes-kept tells K.tells_stops K.rows K.tried K.moment K.left_since K.opens (g.S.Shelf.left c.shut.new.self) _
-          K.faults path c.in-Ok.book keeper' s m s' K.rows_told c.in-Ok.ensures.telling so' alike
+      wishes-kept tells K
+          (g.S.Shelf.left c.shut.new.self) _ path c.in-Ok.book keeper' s m s' c.in-Ok.ensures.telling so' alike
           c.in-Ok.ensures.begins (λ told image. (c.shut.ensures.stops told image).0) c.in-Ok.ensures.opened stands
           c.shut.ensures.others c.shut.ensures.count history is judged so.1,
     ))
     (λ history is none.
-    exact-rows tells K.tells_stops K.rows K.tried K.moment K.left_since K.opens (g.S.Shelf.left c.shut.new.self) _
-    K.faults path c.in-Ok.book keeper' s m s' K.rows_told c.in-Ok.ensures.telling so' alike
+    exact-rows tells K
+    (g.S.Shelf.left c.shut.new.self) _ path c.in-Ok.book keeper' s m s' c.in-Ok.ensures.telling so' alike
     c.in-Ok.ensures.begins (λ told image. (c.shut.ensures.stops told image).0) c.in-Ok.ensures.opened stands
     c.shut.ensures.others c.shut.ensures.count history is c.pipe-ending.ensures.counted none))
 

@@ -22,7 +22,7 @@ returns-in-Ok-clause-views g c =
     (outlet c.args.out.now) (outlet c.print_view-exit.new.out) (stores c.args.shelf.now) (stores c.open_store.new.shelf)
     (stores c.shut.new.self)
     c.in-Ok.ensures.opened c.close.ensures.same
-    (none-tried tells K.rows K.tried K.moment K.left_since K.opens _ c.in-Ok.book c.close.result
+    (none-tried tells K _ c.in-Ok.book c.close.result
     c.in-Ok.ensures.begins c.close.ensures.same)
     c.print_view-exit.ensures
     (stands-by (K.tells_stops c.close.result) tells so' (K.rows c.close.result) (K.tried c.close.result)

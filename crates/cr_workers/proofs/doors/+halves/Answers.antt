@@ -19,16 +19,14 @@ pub returns-in-Err-clause-serves : goal.returns-in-Err-clause-serves
 returns-in-Err-clause-serves g t c =
     rw c.in-Err.ensures.all
     (doors-unasked
-    (streams_of (tries_of g.K.Keeper.tells_stops g.K.Keeper.rows g.K.Keeper.tried g.K.Keeper.moment
-    g.K.Keeper.left_since g.K.Keeper.opens) g.D.In.Source.left g.D.In.Source.read_gives g.D.In.Source.faults
+    (streams_of (tries_of g.K.Keeper) g.D.In.Source.left g.D.In.Source.read_gives g.D.In.Source.faults
     g.D.Out.Sink.taken g.D.Out.Sink.faults g.D.Clock.Clock.coming g.D.Clock.Clock.faults)
     (map (door_of g.D.Door.left g.D.Door.is_out g.D.Door.faults g.D.Door.log) c.args.doors.items) c.args.pass)
 
 pub returns-clause-serves : goal.returns-clause-serves
 returns-clause-serves g t c =
     let streams =
-    streams_of (tries_of g.K.Keeper.tells_stops g.K.Keeper.rows g.K.Keeper.tried g.K.Keeper.moment
-    g.K.Keeper.left_since g.K.Keeper.opens) g.D.In.Source.left g.D.In.Source.read_gives g.D.In.Source.faults
+    streams_of (tries_of g.K.Keeper) g.D.In.Source.left g.D.In.Source.read_gives g.D.In.Source.faults
     g.D.Out.Sink.taken g.D.Out.Sink.faults g.D.Clock.Clock.coming g.D.Clock.Clock.faults in
     let seen = door_of g.D.Door.left g.D.Door.is_out g.D.Door.faults g.D.Door.log in
     let front = c.in-Ok.halves.0.items in

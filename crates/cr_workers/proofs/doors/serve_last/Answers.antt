@@ -11,6 +11,5 @@ returns-in_default-clause-serves g c =
     let after : length c.pop.new.self.items ≡ 0 = search rules in
     rw (no-door c.args.doors.items before) (rw (no-door c.pop.new.self.items after)
     (doors-none
-    (streams_of (tries_of g.K.Keeper.tells_stops g.K.Keeper.rows g.K.Keeper.tried g.K.Keeper.moment
-    g.K.Keeper.left_since g.K.Keeper.opens) g.D.In.Source.left g.D.In.Source.read_gives g.D.In.Source.faults
+    (streams_of (tries_of g.K.Keeper) g.D.In.Source.left g.D.In.Source.read_gives g.D.In.Source.faults
     g.D.Out.Sink.taken g.D.Out.Sink.faults g.D.Clock.Clock.coming g.D.Clock.Clock.faults) c.args.pass))

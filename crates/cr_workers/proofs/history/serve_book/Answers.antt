@@ -12,8 +12,7 @@ pub returns-in-Err-clause-serves : goal.returns-in-Err-clause-serves
 returns-in-Err-clause-serves g c =
     rw c.in-Err.ensures
     (history-unasked
-    (streams_of (tries_of g.K.Keeper.tells_stops g.K.Keeper.rows g.K.Keeper.tried g.K.Keeper.moment
-    g.K.Keeper.left_since g.K.Keeper.opens) g.D.In.Source.left g.D.In.Source.read_gives g.D.In.Source.faults
+    (streams_of (tries_of g.K.Keeper) g.D.In.Source.left g.D.In.Source.read_gives g.D.In.Source.faults
     g.D.Out.Sink.taken g.D.Out.Sink.faults g.D.Clock.Clock.coming g.D.Clock.Clock.faults)
     (map (door_of g.D.Door.left g.D.Door.is_out g.D.Door.faults g.D.Door.log) c.args.doors.items)
     (ledger_of g.K.Keeper.faults c.args.book))
@@ -23,8 +22,7 @@ returns-clause-serves g c =
     let made = c.in-Ok.ensures in
     subst
     (λ b. ServesHistory
-    (streams_of (tries_of g.K.Keeper.tells_stops g.K.Keeper.rows g.K.Keeper.tried g.K.Keeper.moment
-    g.K.Keeper.left_since g.K.Keeper.opens) g.D.In.Source.left g.D.In.Source.read_gives g.D.In.Source.faults
+    (streams_of (tries_of g.K.Keeper) g.D.In.Source.left g.D.In.Source.read_gives g.D.In.Source.faults
     g.D.Out.Sink.taken g.D.Out.Sink.faults g.D.Clock.Clock.coming g.D.Clock.Clock.faults)
     c.serve_doors-pass.result.2
     (map (door_of g.D.Door.left g.D.Door.is_out g.D.Door.faults g.D.Door.log) c.args.doors.items)

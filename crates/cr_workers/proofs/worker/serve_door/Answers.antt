@@ -10,8 +10,7 @@ use Rattle.cr_workers.proofs.worker.serve_door.Goals as goal
 pub serving-init : goal.serving-init
 serving-init g c =
     let streams =
-    streams_of (tries_of g.K.Keeper.tells_stops g.K.Keeper.rows g.K.Keeper.tried g.K.Keeper.moment
-    g.K.Keeper.left_since g.K.Keeper.opens) g.D.In.Source.left g.D.In.Source.read_gives g.D.In.Source.faults
+    streams_of (tries_of g.K.Keeper) g.D.In.Source.left g.D.In.Source.read_gives g.D.In.Source.faults
     g.D.Out.Sink.taken g.D.Out.Sink.faults g.D.Clock.Clock.coming g.D.Clock.Clock.faults in
     serves-none streams (door_of g.D.Door.left g.D.Door.is_out g.D.Door.faults g.D.Door.log c.args.door.now)
     c.args.pass.now c.requires.back
@@ -19,8 +18,7 @@ serving-init g c =
 pub serving-preserved : goal.serving-preserved
 serving-preserved g c =
     let streams =
-    streams_of (tries_of g.K.Keeper.tells_stops g.K.Keeper.rows g.K.Keeper.tried g.K.Keeper.moment
-    g.K.Keeper.left_since g.K.Keeper.opens) g.D.In.Source.left g.D.In.Source.read_gives g.D.In.Source.faults
+    streams_of (tries_of g.K.Keeper) g.D.In.Source.left g.D.In.Source.read_gives g.D.In.Source.faults
     g.D.Out.Sink.taken g.D.Out.Sink.faults g.D.Clock.Clock.coming g.D.Clock.Clock.faults in
     let seen = door_of g.D.Door.left g.D.Door.is_out g.D.Door.faults g.D.Door.log in
     subst (λ (b : Bool). ServesSoFar streams b (seen c.args.door.now) (seen c.serve_next_connection.new.door)
@@ -33,8 +31,7 @@ serving-preserved g c =
 pub returns-in-Err-clause-serves : goal.returns-in-Err-clause-serves
 returns-in-Err-clause-serves g c =
     let streams =
-    streams_of (tries_of g.K.Keeper.tells_stops g.K.Keeper.rows g.K.Keeper.tried g.K.Keeper.moment
-    g.K.Keeper.left_since g.K.Keeper.opens) g.D.In.Source.left g.D.In.Source.read_gives g.D.In.Source.faults
+    streams_of (tries_of g.K.Keeper) g.D.In.Source.left g.D.In.Source.read_gives g.D.In.Source.faults
     g.D.Out.Sink.taken g.D.Out.Sink.faults g.D.Clock.Clock.coming g.D.Clock.Clock.faults in
     let seen = door_of g.D.Door.left g.D.Door.is_out g.D.Door.faults g.D.Door.log in
     subst (λ (w : Worked). ServesDoors streams w (seen c.args.door.now ∷ [])
@@ -47,8 +44,7 @@ returns-in-Err-clause-serves g c =
 pub returns-in-Err-clause-pass : goal.returns-in-Err-clause-pass
 returns-in-Err-clause-pass g c =
     let streams =
-    streams_of (tries_of g.K.Keeper.tells_stops g.K.Keeper.rows g.K.Keeper.tried g.K.Keeper.moment
-    g.K.Keeper.left_since g.K.Keeper.opens) g.D.In.Source.left g.D.In.Source.read_gives g.D.In.Source.faults
+    streams_of (tries_of g.K.Keeper) g.D.In.Source.left g.D.In.Source.read_gives g.D.In.Source.faults
     g.D.Out.Sink.taken g.D.Out.Sink.faults g.D.Clock.Clock.coming g.D.Clock.Clock.faults in
     let seen = door_of g.D.Door.left g.D.Door.is_out g.D.Door.faults g.D.Door.log in
     subst (λ (x : KnownPass g.row.K.Denot). StaysPass (1048576 * g.D.Door.left c.args.door.now) c.args.pass.now x)

@@ -7,8 +7,7 @@ use Rattle.cr_workers.proofs.worker.serve_door.Given as goal
 abbrev pub invariant-serving : goal.invariant-serving
 invariant-serving g l = (let seen = door_of g.D.Door.left g.D.Door.is_out g.D.Door.faults g.D.Door.log in
     ServesSoFar
-    (streams_of (tries_of g.K.Keeper.tells_stops g.K.Keeper.rows g.K.Keeper.tried g.K.Keeper.moment
-    g.K.Keeper.left_since g.K.Keeper.opens) g.D.In.Source.left g.D.In.Source.read_gives g.D.In.Source.faults
+    (streams_of (tries_of g.K.Keeper) g.D.In.Source.left g.D.In.Source.read_gives g.D.In.Source.faults
     g.D.Out.Sink.taken g.D.Out.Sink.faults g.D.Clock.Clock.coming g.D.Clock.Clock.faults) l.lacked
     (seen l.initial.door) (seen l.door) l.initial.pass l.pass)
 

@@ -13,8 +13,7 @@ returns-in-Conn-clause-serves g c =
     let world = world_of g.D.In.Source.faults g.D.Out.Sink.taken g.D.Out.Sink.faults g.D.Clock.Clock.coming
     g.D.Clock.Clock.faults in
     let grown =
-    grown-connection (tries_of g.K.Keeper.tells_stops g.K.Keeper.rows g.K.Keeper.tried g.K.Keeper.moment
-    g.K.Keeper.left_since g.K.Keeper.opens) g.D.In.Source.left g.D.In.Source.read_gives served.result
+    grown-connection (tries_of g.K.Keeper) g.D.In.Source.left g.D.In.Source.read_gives served.result
     (world c.args.pass.now c.in-Conn.source c.in-Conn.sink c.in-Conn.clock)
     (world served.new.pass served.new.source served.new.sink served.new.clock) served.ensures.connection in
     let connection : ServedConnection g.row.K.Denot g.row.D-In.Denot g.row.D-Out.Denot g.row.D-Clock.Denot = record {

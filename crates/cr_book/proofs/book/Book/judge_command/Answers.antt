@@ -122,7 +122,7 @@ returns-in-Ok-keep-clause-rule g c = λ rule told.
 pub returns-in-Ok-keep-clause-stops : goal.returns-in-Ok-keep-clause-stops
 returns-in-Ok-keep-clause-stops g c = λ told drawn is.
     let K = g.K.Keeper in
-    kept_drawn K.rows K.tried K.moment K.left_since K.opens K.tells_stops
+    kept_drawn K
     (judge (view c.args.call.caller c.args.self.now.log) c.args.call)
     (drawn_by c.self.inside.live.tables.accounts c.in-Ok.effect) drawn
     (judged-by_view g.K.Keeper.rows _ c.args.self.now.log _ _ c.args.call
@@ -135,7 +135,7 @@ returns-in-Ok-keep-clause-stops g c = λ told drawn is.
 pub returns-in-Err-keep-clause-stops : goal.returns-in-Err-keep-clause-stops
 returns-in-Err-keep-clause-stops g c = λ told drawn is.
     let K = g.K.Keeper in
-    refused_drawn K.rows K.tried K.moment K.left_since K.opens K.tells_stops
+    refused_drawn K
     (judge (view c.args.call.caller c.args.self.now.log) c.args.call)
     (drawn_by c.self.inside.live.tables.accounts c.in-Ok.effect) drawn
     (judged-by_view g.K.Keeper.rows _ c.args.self.now.log _ _ c.args.call

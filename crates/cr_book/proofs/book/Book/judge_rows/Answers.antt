@@ -125,7 +125,7 @@ returns-in-Ok-keep-clause-broken g c = λ broken told.
 pub returns-in-Ok-keep-clause-stops : goal.returns-in-Ok-keep-clause-stops
 returns-in-Ok-keep-clause-stops g c = λ told drawn is.
     let K = g.K.Keeper in
-    kept_drawn K.rows K.tried K.moment K.left_since K.opens K.tells_stops
+    kept_drawn K
     (judge_bulk (view (Some c.args.stamp.maker) c.args.self.now.log) (bulk_under c.args.stamp c.args.rows))
     (record { group = c.in-Ok.group.items; receipt = receipts.Rows (length c.in-Ok.group.items) }) drawn
     (bulk-drawn g.K.Keeper.rows _ c.args.self.now.log _ _ (bulk_under c.args.stamp c.args.rows) c.in-Ok.group.items
@@ -138,7 +138,7 @@ returns-in-Ok-keep-clause-stops g c = λ told drawn is.
 pub returns-in-Err-keep-clause-stops : goal.returns-in-Err-keep-clause-stops
 returns-in-Err-keep-clause-stops g c = λ told drawn is.
     let K = g.K.Keeper in
-    refused_drawn K.rows K.tried K.moment K.left_since K.opens K.tells_stops
+    refused_drawn K
     (judge_bulk (view (Some c.args.stamp.maker) c.args.self.now.log) (bulk_under c.args.stamp c.args.rows))
     (record { group = c.in-Ok.group.items; receipt = receipts.Rows (length c.in-Ok.group.items) }) drawn
     (bulk-drawn g.K.Keeper.rows _ c.args.self.now.log _ _ (bulk_under c.args.stamp c.args.rows) c.in-Ok.group.items

@@ -55,7 +55,7 @@ invariant_of-self-2 g c =
     let inside = c.self.inside in
     let same = ap (λ (v : SeenBook g.row.K.Denot). v.log) c.self.view_is in
     let alike = K.tells_alike c.append_all.new.self inside.keeper c.append_all.ensures.alike in
-    let both = kept_step K.rows K.tried K.moment K.left_since K.opens K.tells_stops K.rows_told inside.opened.value
+    let both = kept_step K inside.opened.value
     inside.keeper c.append_all.new.self
     alike
     inside.log.entries c.args.group.items c.deref-5.result.now inside.live.tables (added-rows g c) (
@@ -69,7 +69,7 @@ invariant_of-self-2 g c =
       both.1,
       c.append_all.ensures.alike ∙ c.self.invariant.2,
       λ telling. let told = sym alike ∙ telling in
-          counted_kept K.faults K.tried inside.opened.value inside.keeper c.append_all.new.self (c.self.invariant.3
+          counted_kept K inside.opened.value inside.keeper c.append_all.new.self (c.self.invariant.3
           told)
           c.append_all.ensures.cause.later (c.in-Ok-append_all.ensures.tried told),
     )
@@ -80,7 +80,7 @@ invariant_of-self-in-Err-Failed g c =
     let inside = c.self.inside in
     let same = ap (λ (v : SeenBook g.row.K.Denot). v.log) c.self.view_is in
     let alike = K.tells_alike c.append_all.new.self inside.keeper c.append_all.ensures.alike in
-    let both = refused_step K.rows K.tried K.moment K.left_since K.opens K.tells_stops K.rows_told inside.opened.value
+    let both = refused_step K inside.opened.value
     inside.keeper c.append_all.new.self
     alike
     inside.log.entries c.args.group.items c.deref-5.result.now inside.live.tables
@@ -96,7 +96,7 @@ invariant_of-self-in-Err-Failed g c =
       both.1,
       c.append_all.ensures.alike ∙ c.self.invariant.2,
       λ telling. let told = sym alike ∙ telling in
-          counted_failed K.faults K.tried inside.opened.value inside.keeper c.append_all.new.self (c.self.invariant.3
+          counted_failed K inside.opened.value inside.keeper c.append_all.new.self (c.self.invariant.3
           told)
           c.append_all.ensures.cause.later (c.in-Err-Failed.ensures.cause.failed (ap Err c.in-Err-Failed.field-0-is)),
     )
@@ -107,7 +107,7 @@ invariant_of-self-in-Err-OutOfMemory g c =
     let inside = c.self.inside in
     let same = ap (λ (v : SeenBook g.row.K.Denot). v.log) c.self.view_is in
     let alike = K.tells_alike c.append_all.new.self inside.keeper c.append_all.ensures.alike in
-    let both = refused_step K.rows K.tried K.moment K.left_since K.opens K.tells_stops K.rows_told inside.opened.value
+    let both = refused_step K inside.opened.value
     inside.keeper c.append_all.new.self
     alike
     inside.log.entries c.args.group.items c.deref-5.result.now inside.live.tables
@@ -123,7 +123,7 @@ invariant_of-self-in-Err-OutOfMemory g c =
       both.1,
       c.append_all.ensures.alike ∙ c.self.invariant.2,
       λ telling. let told = sym alike ∙ telling in
-          counted_still K.faults K.tried inside.opened.value inside.keeper c.append_all.new.self (c.self.invariant.3
+          counted_still K inside.opened.value inside.keeper c.append_all.new.self (c.self.invariant.3
           told)
           (c.in-Err-OutOfMemory.ensures.untried told (ap Err c.in-Err-OutOfMemory.field-0-is)),
     )
@@ -134,11 +134,11 @@ returns-clause-stops g c = λ tells.
     let told = subst (λ (v : SeenBook g.row.K.Denot). IsTrue (K.tells_stops v.keeper)) (sym c.self.view_is) tells in
     let inside = c.self.inside in
     let same = ap (λ (v : SeenBook g.row.K.Denot). v.log) c.self.view_is in
-    subst (λ (v : SeenBook g.row.K.Denot). Adding K.rows K.tried K.moment K.left_since K.opens K.tells_stops (Ok (tt
+    subst (λ (v : SeenBook g.row.K.Denot). Adding K (Ok (tt
     {0})) v.log
     c.args.group.items v.keeper c.append_all.new.self)
     c.self.view_is
-    (kept_adds K.rows K.tried K.moment K.left_since K.opens K.tells_stops K.rows_told inside.opened.value
+    (kept_adds K inside.opened.value
     inside.keeper c.append_all.new.self
     (K.tells_alike c.append_all.new.self inside.keeper c.append_all.ensures.alike)
     inside.log.entries c.args.group.items c.deref-5.result.now inside.live.tables (added-rows g c) (
@@ -154,11 +154,11 @@ returns-in-Err-Failed-clause-stops g c = λ tells.
     let told = subst (λ (v : SeenBook g.row.K.Denot). IsTrue (K.tells_stops v.keeper)) (sym c.self.view_is) tells in
     let inside = c.self.inside in
     let same = ap (λ (v : SeenBook g.row.K.Denot). v.log) c.self.view_is in
-    subst (λ (v : SeenBook g.row.K.Denot). Adding K.rows K.tried K.moment K.left_since K.opens K.tells_stops {T = Unit
+    subst (λ (v : SeenBook g.row.K.Denot). Adding K {T = Unit
     {0}}
     (Err errors.KeeperFault) v.log c.args.group.items v.keeper c.append_all.new.self)
     c.self.view_is
-    (refused_adds K.rows K.tried K.moment K.left_since K.opens K.tells_stops K.rows_told inside.opened.value
+    (refused_adds K inside.opened.value
     inside.keeper c.append_all.new.self
     (K.tells_alike c.append_all.new.self inside.keeper c.append_all.ensures.alike)
     inside.log.entries c.args.group.items c.deref-5.result.now inside.live.tables
@@ -175,11 +175,11 @@ returns-in-Err-OutOfMemory-clause-stops g c = λ tells.
     let told = subst (λ (v : SeenBook g.row.K.Denot). IsTrue (K.tells_stops v.keeper)) (sym c.self.view_is) tells in
     let inside = c.self.inside in
     let same = ap (λ (v : SeenBook g.row.K.Denot). v.log) c.self.view_is in
-    subst (λ (v : SeenBook g.row.K.Denot). Adding K.rows K.tried K.moment K.left_since K.opens K.tells_stops {T = Unit
+    subst (λ (v : SeenBook g.row.K.Denot). Adding K {T = Unit
     {0}}
     (Err errors.OutOfMemory) v.log c.args.group.items v.keeper c.append_all.new.self)
     c.self.view_is
-    (refused_adds K.rows K.tried K.moment K.left_since K.opens K.tells_stops K.rows_told inside.opened.value
+    (refused_adds K inside.opened.value
     inside.keeper c.append_all.new.self
     (K.tells_alike c.append_all.new.self inside.keeper c.append_all.ensures.alike)
     inside.log.entries c.args.group.items c.deref-5.result.now inside.live.tables

@@ -17,7 +17,7 @@ returns-in-Err-clause-exact g c =
 pub returns-in-Ok-clause-between : goal.returns-in-Ok-clause-between
 returns-in-Ok-clause-between g c told =
     let K = g.K.Keeper in
-    (opened_well K.rows K.tried K.moment K.left_since K.opens c.args.keeper c.read_all.new.keeper c.in-Ok.log.entries
+    (opened_well K c.args.keeper c.read_all.new.keeper c.in-Ok.log.entries
     (K.rows_told c.args.keeper told)
     c.in-Ok.ensures.legal.0 c.in-Ok.ensures.spelled (c.in-Ok.ensures.still told) (c.in-Ok.ensures.between told)).between
 
@@ -33,14 +33,14 @@ invariant_of-result g c =
             c.in-Ok.ensures.spelled;
       },
       λ telling. let told = sym alike ∙ telling in
-          subst (λ (k : g.row.K.Denot). StopsWell K.rows K.tried K.moment K.left_since K.opens k c.read_all.new.keeper
+          subst (λ (k : g.row.K.Denot). StopsWell K k c.read_all.new.keeper
           log) (sym c.of-opened.ensures)
-          (opened_well K.rows K.tried K.moment K.left_since K.opens c.args.keeper c.read_all.new.keeper log
+          (opened_well K c.args.keeper c.read_all.new.keeper log
           (K.rows_told c.args.keeper told)
           c.in-Ok.ensures.legal.0 c.in-Ok.ensures.spelled (c.in-Ok.ensures.still told) (c.in-Ok.ensures.between told)),
       c.read_all.ensures.alike ∙ ap K.kind (sym c.of-opened.ensures),
       λ telling.
-          subst (λ (k : g.row.K.Denot). CountsTried K.faults K.tried k c.read_all.new.keeper) (sym c.of-opened.ensures)
-          (counted_opened K.faults K.tried c.args.keeper c.read_all.new.keeper
+          subst (λ (k : g.row.K.Denot). CountsTried K k c.read_all.new.keeper) (sym c.of-opened.ensures)
+          (counted_opened K c.args.keeper c.read_all.new.keeper
           (c.in-Ok.ensures.still (sym alike ∙ telling))),
     )
