@@ -1,8 +1,8 @@
 -- A pair that a search brings in.
-use Rattle.cr_match.proofs.Common.{◌≡◌, ◌≢◌, inl, inr, ◌↔◌, ℕ, ◌+◌, ◌<◌, ◌≤◌, true, List, length, take, drop}
+use Rattle.cr_match.proofs.Common.{◌≡◌, ◌≢◌, inl, inr, ◌↔◌, ℕ, ◌+◌, ◌<◌, ◌≤◌, true, List, length}
 use Rattle.cr_match.proofs.Common.{get_or, refl, arith, sym, ◌∙◌, subst, cases_eq, Board, Levels, Draft, Pair}
 use Rattle.cr_match.proofs.Common.{AreInside, AreDistinct, worth, price_of, Holds, at, IsDraft, IsFree, Fits, Turns}
-use Rattle.cr_match.proofs.Common.{Changes, Toggles, Turned, RowHas, Takes, nth, IsTable, slot_of, slots, IsBest}
+use Rattle.cr_match.proofs.Common.{Changes, Toggles, RowHas, Takes, nth, IsTable, slot_of, slots, IsBest}
 use Rattle.cr_match.proofs.Common.{IsSettling, SameBefore}
 use Rattle.cr_match.specs.Board.{Suits}
 use Rattle.cr_match.specs.Settle.{Adds}

@@ -1,6 +1,6 @@
 -- Slots one by one: where they are, counts over joined lists, and lists that differ in what is chosen alone.
 use Rattle.cr_match.proofs.Common.{Bool, true, false, ◌&&◌, ◌≡◌, ℕ, zero, suc, ◌+◌, ◌<◌, ◌≤◌, ◌==◌, List, [], ◌∷◌}
-use Rattle.cr_match.proofs.Common.{◌++◌, length, count_by, take, drop, get_or, refl, arith, ap, sym, ◌∙◌, nat_tests}
+use Rattle.cr_match.proofs.Common.{◌++◌, length, count_by, take, drop, get_or, refl, arith, ap, ◌∙◌, nat_tests}
 use Rattle.cr_match.proofs.Common.{sum_by-cons, sum_by-append, Slot, has_paper, has_member, slot, Alike, marks}
 use Rattle.cr_match.proofs.Common.{AllInside}
 use Rattle.cr_match.proofs.Alike.{bit}

@@ -1,14 +1,13 @@
 -- A turn keeps a plan fitting, and some paper has one member more.
 use Rattle.cr_match.proofs.Common.{◌≡◌, ◌⊎◌, inl, inr, ℕ, ◌+◌, ◌<◌, ◌≤◌, get_or, refl, arith, ap, sym, ◌∙◌, subst}
-use Rattle.cr_match.proofs.Common.{cases_eq, Has, Takes, Drops, step_of, IsRoomy, AreSteps, IsReached, worth}
+use Rattle.cr_match.proofs.Common.{Takes, Drops, step_of, worth}
 use Rattle.cr_match.proofs.Common.{price_of, IsDraft, Fits, IsFree, Turns, at, IsFitting, IsBegun, placed}
-use Rattle.cr_match.proofs.Common.{Board, Levels, Draft, Step, Trail}
+use Rattle.cr_match.proofs.Common.{Board, Levels, Draft, Trail}
 use Rattle.cr_match.specs.Search.{IsSearched, Reaches}
 use Rattle.cr_match.proofs.Reached.{IsRooted, rooted_member, rooted_reached, rooted_roomy, rooted_steps}
 use Rattle.cr_match.specs.Board.{AreAlike, Suits}
 use Rattle.cr_match.proofs.Bits.{row_cases}
 use Rattle.cr_match.proofs.Counts.{changed_total}
-use Rattle.cr_match.proofs.Sets.{clear_none}
 use Rattle.cr_match.proofs.Swapped.{iff_trans}
 use Rattle.cr_match.proofs.Turned.{at_same, at_other}
 

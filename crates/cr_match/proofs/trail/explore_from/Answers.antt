@@ -1,4 +1,4 @@
-use Rattle.cr_match.proofs.Common.{◌≡◌, ◌+◌, ◌<◌, ◌≤◌, arith, Has}
+use Rattle.cr_match.proofs.Common.{arith, Has}
 use Rattle.cr_match.proofs.Reached.{IsRooted, found_or_done, room, rooted_done, rooted_reached, rooted_roomy, rooted_steps}
 use Rattle.cr_match.proofs.Steps.{refuted}
 use Rattle.cr_match.proofs.trail.explore_from.Goals as goal
