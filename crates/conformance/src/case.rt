@@ -24,11 +24,11 @@ pub struct Case {
     pub exit: Exit,
     /// What fails beside the connections.
     pub faults: Faults,
-    /// The rows that stand in the store ahead of the run.
+    /// The rows that are in the store ahead of the run.
     pub rows: Vec<Row>,
-    /// The rows that are due there behind it, where they are told.
+    /// The rows that are due there after it, if they are told.
     pub rows_due: Option<Vec<Row>>,
-    /// At which address the gates are asked for doors, where that is told; empty where they aren't asked.
+    /// At which address the gates are asked for doors, if that is told; empty where they aren't asked.
     pub listen: Option<String>,
     /// How often some answers come on the connections.
     pub times: Vec<Times>,
@@ -48,13 +48,13 @@ pub struct Times {
 /// What fails in a case beside its connections.
 #[derive(Drop)]
 pub struct Faults {
-    /// Whether the store can't be opened.
+    /// True if the store can't be opened.
     pub is_shut: bool,
     /// The numbers of the appends that fail, from 0.
     pub appends: Vec<u64>,
     /// The numbers of the keeper's other calls that fail, from 0.
     pub reads: Vec<u64>,
-    /// Whether the gates can't be opened.
+    /// True if the gates can't be opened.
     pub has_no_doors: bool,
     /// Of each door the numbers of the calls that fail, from 0.
     pub doors: Vec<Vec<u64>>,
@@ -65,22 +65,22 @@ pub struct Faults {
 pub enum Ways {
     /// With its bytes whole, and cut into pieces in several ways.
     AllCuts,
-    /// With its bytes whole alone.
+    /// With its bytes only whole.
     Whole,
-    /// For each number of bytes behind which the input may end, once.
+    /// For each number of bytes after which the input may end, once.
     EachEnd,
-    /// For each number of bytes behind which the input may fail, once.
+    /// For each number of bytes after which the input may fail, once.
     EachRead,
-    /// For each number of bytes behind which the output may fail, once.
+    /// For each number of bytes after which the output may fail, once.
     EachWrite,
     /// For each call of the clock that may fail, once.
     EachClock,
-    /// For each number of rows behind which the store may end, once.
+    /// For each number of rows after which the store may end, once.
     EachRow,
 }
 
 impl Case {
-    /// A case of `confd pipe` that sends nothing yet.
+    /// Returns a case of `confd pipe` that sends nothing yet.
     pub fn new(alloc: Global, title: &str) -> Result<Case, LineError> {
         Ok(Case {
             title: String::from_str(alloc, title)?,
@@ -104,7 +104,7 @@ impl Case {
         })
     }
 
-    /// How many answers are due.
+    /// Returns how many answers are due.
     pub fn answers(&self) -> usize {
         let mut answers = self.talk.answers.len();
         for connection in self.connections.iter() {

@@ -7,7 +7,7 @@ use crate::time::Time;
 use cr_base::{Moment, Row};
 use std::alloc::Global;
 
-/// What is sent on one connection, where it fails, and what is due.
+/// What is sent on one connection, if it fails, and what is due.
 #[derive(Drop)]
 pub struct Talk {
     /// All that is sent.
@@ -39,27 +39,27 @@ pub struct Mark {
     pub end: usize,
     /// How many moments the clock has given by then.
     pub moments: usize,
-    /// How many rows are kept by then, where that is told.
+    /// How many rows are kept by then, if that is told.
     pub rows: Option<u64>,
     /// What may be answered in its place.
     pub others: Vec<Vec<u8>>,
-    /// The row that is kept exactly where it is answered itself, where that is told.
+    /// The row that is kept exactly if it is answered itself, if that is told.
     pub kept: Option<Row>,
 }
 
 /// One of many connections, or several that are alike.
 #[derive(Drop)]
 pub struct Connection {
-    /// What is sent on it, where it fails, and what is due.
+    /// What is sent on it, if it fails, and what is due.
     pub talk: Talk,
     /// How many are like this.
     pub count: usize,
-    /// Whether a door is asked for it.
+    /// True if a door is asked for it.
     pub is_asked: bool,
 }
 
 impl Connection {
-    /// So many connections as a text says, one where it is empty, that send nothing yet.
+    /// Returns as many connections as a text says, one for an empty text, that send nothing yet.
     pub fn new(alloc: Global, count: &str) -> Result<Connection, LineError> {
         let count = if count.is_empty() {
             1
@@ -75,7 +75,7 @@ impl Connection {
 }
 
 impl Talk {
-    /// A connection that sends nothing yet.
+    /// Returns a connection that sends nothing yet.
     pub fn new(alloc: Global) -> Talk {
         Talk {
             sent: Vec::new(alloc),

@@ -56,8 +56,8 @@ fn begun(alloc: Global, number: usize, title: &str) -> Result<Case, FileError> {
     }
 }
 
-/// The cases that a file's text tells. Each begins at a line `== TITLE`; what stands ahead of the first of
-/// them, a line at least, stands ahead of each.
+/// Returns the cases that a file's text tells. Each begins at a line `== TITLE`; what precedes the first of them, a
+/// line at least, precedes each.
 pub fn read_cases(alloc: Global, text: &str) -> Result<Vec<Case>, FileError> {
     let mut parts = text.split("\n== ");
     let shared = parts.next().unwrap_or("");

@@ -69,7 +69,7 @@ fn add_command_number(into: &mut Vec<u8>, number: &str) -> Result<(), LineError>
     Ok(())
 }
 
-/// Adds the request that `NAME METHOD PATH [BODY]` tells, with this number of a command, where it isn't empty.
+/// Adds the request that `NAME METHOD PATH [BODY]` tells, with this number of a command, if it isn't empty.
 pub fn add_request(
     alloc: Global,
     into: &mut Vec<u8>,
@@ -117,9 +117,9 @@ fn add_date(into: &mut Vec<u8>, time: &Time) -> Result<(), AllocError> {
     Ok(())
 }
 
-/// Adds the answer of this time that `CODE [Allow: METHODS; ][HEAD ][bytes: |text: ]CONTENT` tells. Behind `HEAD`
-/// stands the content that GET would be answered, of which an answer to HEAD has the length alone. Behind `bytes:`
-/// stands a paper's content, which is sent as it is, behind `text:` a report, and else an object of JSON.
+/// Adds the answer of this time that `CODE [Allow: METHODS; ][HEAD ][bytes: |text: ]CONTENT` tells. After `HEAD` comes
+/// the content of the answer to GET; an answer to HEAD has only its length. After `bytes:` comes a paper's content,
+/// which is sent unchanged, after `text:` a report, and else an object of JSON.
 pub fn add_answer(
     alloc: Global,
     into: &mut Vec<u8>,

@@ -12,7 +12,7 @@ use std::thread::Threads;
 /// More room than any answers that are due need, so that what comes too much is told.
 pub const SPARE_ROOM: usize = 4096;
 
-/// How a stream is cut: one piece of `first` bytes, where that isn't 0, then pieces of `size`.
+/// How a stream is cut: one piece of `first` bytes, if that isn't 0, then pieces of `size`.
 #[derive(Clone, Copy, Drop)]
 pub struct Cut {
     pub first: usize,
@@ -89,7 +89,7 @@ fn clock_of(alloc: Global, moments: &[Moment], fault: Option<u64>) -> Result<Mem
 #[derive(Clone, Copy, Drop)]
 pub struct Doors<'a> {
     pub connections: &'a [Connection],
-    /// Whether they can't be opened.
+    /// True if they can't be opened.
     pub are_shut: bool,
     /// Of each door the numbers of the calls that fail, from 0.
     pub failing: &'a [Vec<u64>],
@@ -152,7 +152,7 @@ pub struct Outcome {
     pub own: Came,
     /// The connections that doors gave, in order.
     pub connections: Vec<Came>,
-    /// The rows that stand in the store.
+    /// The rows that are in the store.
     pub rows: Vec<Row>,
     /// The addresses that doors were asked for at.
     pub asked: Vec<String>,

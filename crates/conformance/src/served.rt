@@ -135,7 +135,7 @@ impl Looked<'_> {
     }
 }
 
-/// The first difference between what is due of a case's connections and what came of them, by this cut and
+/// Returns the first difference between what is due of a case's connections and what came of them, by this cut and
 /// with these rows kept, in words.
 pub fn differing_connection(
     alloc: Global,

@@ -8,10 +8,10 @@ use cr_journal::JournalShelf;
 use cr_ports::{EitherShelf, Keeper, KeeperError, MemShelf, Shelf, Silent, WatchedShelf};
 use std::alloc::{AllocError, Global};
 
-/// Where the rows of a case stand whose words name no journal.
+/// The path of a case's rows, if its words name no journal.
 const PATH: &str = "f";
 
-/// And where they do.
+/// The path of a case's rows, if its words name a journal.
 const JOURNAL: &str = "f.cj";
 
 /// How many bytes, and how many writes and syncs, a journal has room for.
@@ -19,10 +19,10 @@ const ROOM: usize = 1 << 20;
 
 const CALLS: usize = 1 << 14;
 
-/// The program's own shelf, over disks in memory and rows in memory, of which nobody is told.
+/// The program's own shelf, over disks in memory and rows in memory, without an observer.
 pub type MemoryShelf = EitherShelf<WatchedShelf<JournalShelf<MemDisks>, Silent>, MemShelf>;
 
-/// Where the rows of a case with these words stand.
+/// Returns the path of the rows of a case with these words.
 pub fn path_in(words: &[String]) -> &'static str {
     if words.iter().any(|word| word.as_str() == JOURNAL) {
         JOURNAL
@@ -31,21 +31,20 @@ pub fn path_in(words: &[String]) -> &'static str {
     }
 }
 
-/// The rows that stand in the store ahead of a run, and which calls of shelf and keeper fail.
+/// The rows that are in the store ahead of a run, and which calls of shelf and keeper fail.
 #[derive(Clone, Copy, Drop)]
 pub struct Store<'a> {
     pub rows: &'a [Row],
-    /// Whether the store can't be opened.
+    /// True if the store can't be opened.
     pub is_shut: bool,
-    /// The numbers of the appends that fail, from 0; 0 only where no row stands there
-    /// ahead, since rows are put there so.
+    /// The numbers of the appends that fail, from 0; 0 only where no row is there ahead, since rows are put there so.
     pub appends: &'a [u64],
     /// The numbers of the keeper's other calls that fail, from 0.
     pub reads: &'a [u64],
 }
 
 impl Store<'_> {
-    /// A shelf with these rows at the path.
+    /// Returns a shelf with these rows at the path.
     pub fn shelf(&self, alloc: Global, path: &str) -> Result<MemoryShelf, AllocError> {
         let disks = MemDisks::new(alloc, ROOM, CALLS, Vec::new(alloc));
         let journals = WatchedShelf::new(JournalShelf::new(alloc, disks), Silent);
@@ -116,7 +115,7 @@ fn opened_rows<S: Shelf>(alloc: Global, shelf: &mut S, path: &str) -> Result<Vec
     rows
 }
 
-/// The rows that stand at the path: of a journal those that it opens to.
+/// Returns the rows that are at the path: of a journal those that it opens to.
 pub fn rows_at(alloc: Global, shelf: &mut MemoryShelf, path: &str) -> Result<Vec<Row>, AllocError> {
     if path == JOURNAL {
         return opened_rows(alloc, shelf, path);
@@ -159,7 +158,7 @@ fn bytes(alloc: Global, word: Option<&str>) -> Result<Blob, LineError> {
     Ok(Blob::from_slice(alloc, bytes.as_slice())?)
 }
 
-/// The row that `KIND MAKER MORE AT NUM MARK N1 N2 N3 N4 N5 B1 B2` tells, a space between any two of them.
+/// Returns the row that `KIND MAKER MORE AT NUM MARK N1 N2 N3 N4 N5 B1 B2` tells, a space between any two of them.
 pub fn read_row(alloc: Global, text: &str) -> Result<Row, LineError> {
     let mut words = text.split(' ');
     let mut stamp = [0u64; 5];
@@ -208,12 +207,12 @@ pub fn add_row(rows: &mut Vec<Row>, index: &str, row: Row) -> Result<(), LineErr
     }
 }
 
-/// Whether the row is one of these.
+/// Returns whether the row is one of these.
 pub fn is_among(row: &Row, rows: &[Row]) -> bool {
     rows.iter().any(|other| other.is_same(row))
 }
 
-/// Whether these are the same rows.
+/// Returns whether these lists of rows are equal.
 pub fn are_same(rows: &[Row], others: &[Row]) -> bool {
     rows.len() == others.len()
         && rows
@@ -222,7 +221,7 @@ pub fn are_same(rows: &[Row], others: &[Row]) -> bool {
             .all(|(row, other)| row.is_same(other))
 }
 
-/// The rows, copied.
+/// Returns the rows, copied.
 pub fn copied(alloc: Global, rows: &[Row]) -> Result<Vec<Row>, AllocError> {
     let mut copies = Vec::new(alloc);
     for row in rows {

@@ -23,8 +23,8 @@ impl<T: Drop> From<AllocFailed<T>> for LineError {
     }
 }
 
-/// Adds the bytes that a text stands for. A `\` begins an escape: `\r`, `\n` and `\\`, `\xHH` for a byte
-/// by its two hexadecimal digits, and `\(N TEXT)` for N times a text that has no escape.
+/// Adds the bytes that a text spells. A `\` begins an escape: `\r`, `\n` and `\\`, `\xHH` for a byte by its two
+/// hexadecimal digits, and `\(N TEXT)` for N times a text that has no escape.
 pub fn add_text(into: &mut Vec<u8>, text: &str) -> Result<(), LineError> {
     let mut is_plain = true;
     for part in text.split('\\') {
@@ -70,12 +70,12 @@ fn add_escaped(into: &mut Vec<u8>, part: &str) -> Result<(), LineError> {
     Ok(())
 }
 
-/// The byte that two hexadecimal digits tell.
+/// Returns the byte that two hexadecimal digits tell.
 pub fn byte_of(digits: &str) -> Result<u8, LineError> {
     u8::from_str_radix(digits, 16).map_err(|_| LineError::NoForm)
 }
 
-/// The number that a text is in decimal.
+/// Returns the number that a text is in decimal.
 pub fn read_number(text: &str) -> Result<usize, LineError> {
     match text.parse::<u32>() {
         Ok(number) => Ok(number as usize),
@@ -83,7 +83,7 @@ pub fn read_number(text: &str) -> Result<usize, LineError> {
     }
 }
 
-/// One less than the number, from 1, that a text is in decimal.
+/// Returns one less than the number, from 1, that a text is in decimal.
 pub fn read_before(text: &str) -> Result<u64, LineError> {
     let number = read_number(text)?.checked_sub(1).ok_or(LineError::NoForm)?;
     Ok(number as u64)
@@ -97,7 +97,7 @@ fn add_times(into: &mut Vec<u8>, count: &str, text: &str) -> Result<(), LineErro
     Ok(())
 }
 
-/// Adds the bytes that a text with escapes stands for, as often as a count says; once where it is empty.
+/// Adds the bytes that a text with escapes spells, as often as a count says; once for an empty count.
 pub fn add_raw(into: &mut Vec<u8>, count: &str, text: &str) -> Result<(), LineError> {
     let count = if count.is_empty() {
         1

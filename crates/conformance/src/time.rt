@@ -14,12 +14,12 @@ pub struct Time {
 }
 
 impl Time {
-    /// That of a case which tells none: the example of RFC 9110.
+    /// Returns the time of a case that tells none: the example of RFC 9110.
     pub fn usual() -> Result<Time, LineError> {
         Time::read("784111777 Sun, 06 Nov 1994 08:49:37 GMT")
     }
 
-    /// The one that `SECONDS DATE` tells.
+    /// Returns the one that `SECONDS DATE` tells.
     pub fn read(text: &str) -> Result<Time, LineError> {
         let (seconds, text) = text.split_once(' ').ok_or(LineError::NoForm)?;
         let Ok(seconds) = seconds.parse::<u64>() else {

@@ -50,7 +50,7 @@ struct Due<'a> {
     moments: usize,
 }
 
-/// The first difference between what is due of a case and what comes, in words; none where all is as due.
+/// Returns the first difference between what is due of a case and what comes, in words; `None` if all is as due.
 pub fn difference<R: Threads + Wait + Sync>(
     rt: &R,
     alloc: Global,
@@ -99,7 +99,7 @@ fn name_of(ways: Ways, number: usize) -> &'static str {
     }
 }
 
-/// The first bytes of a text, all where no number is told or it has fewer.
+/// Returns the first bytes of a text, all where no number is told or it has fewer.
 pub fn front(bytes: &[u8], count: Option<usize>) -> &[u8] {
     match count.and_then(|count| bytes.get(..count)) {
         Some(front) => front,
@@ -194,7 +194,7 @@ fn due_at(case: &Case, number: usize) -> Due<'_> {
     }
 }
 
-/// How many bytes aren't to be read by a cut, where that is told: it is where the bytes come one by one.
+/// Returns how many bytes aren't to be read by a cut, if that is told: it is where the bytes come one by one.
 pub fn unread_due(talk: &Talk, cut: Cut) -> Option<usize> {
     talk.unread
         .filter(|_| cut.size == 1)
@@ -378,7 +378,7 @@ fn differing_answer(
     format!(in alloc; "line {line}: came {came:?}, due {due:?}")
 }
 
-/// The text that bytes are, cut short.
+/// Returns the text that bytes are, cut short.
 pub fn text_of(alloc: Global, bytes: &[u8]) -> Result<String, AllocError> {
     String::from_utf8_lossy(alloc, front(bytes, Some(TOLD)))
 }
@@ -388,7 +388,7 @@ fn told(alloc: Global, bytes: &[u8], start: usize) -> Result<String, AllocError>
     text_of(alloc, bytes.get(start..).unwrap_or(&[]))
 }
 
-/// What came and what was due, in words.
+/// Returns what came and what was due, in words.
 pub fn differing<T: Debug>(
     alloc: Global,
     what: &str,

@@ -16,9 +16,11 @@ use indexmap::IndexMap;
 use std::alloc::{AllocError, Global};
 use std::marker::Model;
 
-/// Who is registered: at most 9,999 accounts, by user number and by name.
+/// The registered users: at most 9,999 accounts, by user number and by name.
 ///
-/// Contracts see the accounts by number, and for how many more entries there is room.
+/// # Model
+///
+/// The accounts by number, and for how many more entries there is room.
 #[derive(Drop)]
 pub struct Accounts {
     accounts: Vec<Account>,
@@ -41,7 +43,7 @@ impl Model for Accounts {
     ghost invariant = { λ t. IsNameIndex t.accounts.items t.by_name };
 }
 
-/// Whether the caller may give somebody who has the role `now` another one.
+/// Checks whether the caller may give somebody who has the role `now` another one.
 fn may_name(by: &Standing, now: Role, role: Role) -> Result<(), Rule>
     ensures { result ≡ judged (name_checks by.now (Some (of_role now)) role) tt }
 {
@@ -57,7 +59,7 @@ fn may_name(by: &Standing, now: Role, role: Role) -> Result<(), Rule>
     Ok(())
 }
 
-/// One more than there were, if the role is a member's.
+/// Returns one more than `count`, if the role is a member's.
 fn counted(count: u64, role: Role) -> u64
     requires { count < 9999 }
     ensures { result ≡ counted_by role count }
@@ -68,7 +70,11 @@ fn counted(count: u64, role: Role) -> u64
     count
 }
 
-/// How many of these are chairs'. A walk over them.
+/// Returns how many of these are chairs'.
+///
+/// # Cost
+///
+/// A walk over them.
 fn chairs_among(accounts: &[Account]) -> usize
     ensures { result ≡ count_by (λ a. is_chair a.role) accounts.now }
 {
@@ -79,7 +85,11 @@ fn chairs_among(accounts: &[Account]) -> usize
 }
 
 impl Accounts {
-    /// No accounts; takes no memory.
+    /// Creates one without accounts.
+    ///
+    /// # Cost
+    ///
+    /// Takes no memory.
     pub fn new(alloc: Global) -> Accounts
         ensures { result.accounts ≡ [] }
     {
@@ -89,16 +99,23 @@ impl Accounts {
         }
     }
 
-    /// How many users are registered, 0 to 9,999; reads no account.
+    /// Returns how many users are registered, 0 to 9,999; reads no account.
     pub fn count(&self) -> u64
         ensures { result ≡ length self.now.accounts }
     {
         self.accounts.len() as u64
     }
 
-    /// The number that a user of this name would have, the count of accounts plus 1, or the first
-    /// broken rule: `NameTaken` where somebody has registered the name, else `FullAccounts` where
-    /// 9,999 users are registered. One look-up by name.
+    /// Returns the number that a user of this name would have, the count of accounts plus 1.
+    ///
+    /// # Errors
+    ///
+    /// The first broken rule: `NameTaken` if somebody has registered the name, else `FullAccounts` if 9,999 users are
+    /// registered.
+    ///
+    /// # Cost
+    ///
+    /// One look-up by name.
     pub fn register_check(&self, name: &Short) -> Result<UserNo, Rule>
         ensures { result ≡ judged (register_checks (is_some (number_at self.now.accounts name.now))
             (length self.now.accounts)) (length self.now.accounts + 1) }
@@ -112,22 +129,34 @@ impl Accounts {
         Ok(UserNo::new(self.count() + 1))
     }
 
-    /// The user who registered a name, and none where nobody did. One look-up by name.
+    /// Returns the user who registered a name, or `None` if no user did.
+    ///
+    /// # Cost
+    ///
+    /// One look-up by name.
     pub fn number_of(&self, name: &Short) -> Option<UserNo>
         ensures { result ≡ number_at self.now.accounts name.now }
     {
         self.by_name.get(name).copied()
     }
 
-    /// The name of a user, and none where nobody has that number. One read by number.
+    /// Returns the name of a user, or `None` if no user has that number.
+    ///
+    /// # Cost
+    ///
+    /// One read by number.
     pub fn name_of(&self, user: UserNo) -> Option<Short>
         ensures { result ≡ option_map (λ a. a.name) (account_at self.now.accounts user) }
     {
         self.name_at(user.number() as u16)
     }
 
-    /// The user who registered a name with this digest of a secret, and none where nobody did: no
-    /// such name, or another digest. One look-up by name, and one read by number.
+    /// Returns the user who registered a name with this digest of a secret, or `None` if no user did: no such name, or
+    /// another digest.
+    ///
+    /// # Cost
+    ///
+    /// One look-up by name, and one read by number.
     pub fn caller(&self, name: &Short, digest: &Digest) -> Option<UserNo>
         ensures { result ≡ caller_at self.now.accounts name.now digest.now }
     {
@@ -140,8 +169,11 @@ impl Accounts {
         }
     }
 
-    /// The role of a user: `Account` for nobody, and where nobody has that number. One read by
-    /// number.
+    /// Returns the role of a user: `Account` for an unauthenticated caller, and if no user has that number.
+    ///
+    /// # Cost
+    ///
+    /// One read by number.
     pub fn standing_for(&self, user: &Option<UserNo>) -> Role
         ensures { result ≡ role_in self.now.accounts user.now }
     {
@@ -151,7 +183,11 @@ impl Accounts {
         }
     }
 
-    /// The name of the user of a number, and none where nobody has it. One read by number.
+    /// Returns the name of the user of a number, or `None` if no user has it.
+    ///
+    /// # Cost
+    ///
+    /// One read by number.
     pub fn name_at(&self, number: u16) -> Option<Short>
         ensures { result ≡ option_map (λ a. a.name) (account_at self.now.accounts number) }
     {
@@ -162,8 +198,12 @@ impl Accounts {
         Some(account.name)
     }
 
-    /// The role that a user was given last, an account's where she was given none, or dismissed since; none where
-    /// nobody has that number. One read by number.
+    /// Returns the role that a user was given last, an account's where the user was given none, or dismissed since;
+    /// `None` if no user has that number.
+    ///
+    /// # Cost
+    ///
+    /// One read by number.
     pub fn role_given(&self, user: UserNo) -> Option<Role>
         ensures { result ≡ role_at self.now.accounts user }
     {
@@ -171,10 +211,16 @@ impl Accounts {
         Some(account.role)
     }
 
-    /// Whether the caller may give a user this role, or the first broken rule: `NoUser` where there is
-    /// no such user, `NotChair` where the caller is no chair, `WrongPhase` after the discussion,
-    /// `AlreadyNamed` where the user has that role or a greater one. `by` is the caller's standing,
-    /// where no paper is named. One read by number at most.
+    /// Checks whether the caller may give a user this role. `by` is the caller's standing, where no paper is named.
+    ///
+    /// # Errors
+    ///
+    /// The first broken rule: `NoUser` if there is no such user, `NotChair` if the caller is no chair, `WrongPhase`
+    /// after the discussion, `AlreadyNamed` if the user has that role or a greater one.
+    ///
+    /// # Cost
+    ///
+    /// One read by number at most.
     pub fn judge_name(&self, by: &Standing, target: &Option<UserNo>, role: Role) -> Result<(), Rule>
         ensures { result ≡ judged (name_checks by.now
             (option_map of_role (option_and_then (role_at self.now.accounts) target.now)) role) tt }
@@ -188,10 +234,17 @@ impl Accounts {
         may_name(by, now, role)
     }
 
-    /// Whether the caller may dismiss a user, or the first broken rule: `NoUser` where there is no such user,
-    /// `NotChair` where the caller is no chair, `WrongPhase` after the discussion, `NotAMember` where the user is no
-    /// member of the committee, `LastChair` where she is the only chair. `by` is the caller's standing, where no paper
-    /// is named. One read by number, and where the user is a chair a walk over the accounts.
+    /// Checks whether the caller may dismiss a user. `by` is the caller's standing, where no paper is named.
+    ///
+    /// # Errors
+    ///
+    /// The first broken rule: `NoUser` if there is no such user, `NotChair` if the caller is no chair, `WrongPhase`
+    /// after the discussion, `NotAMember` if the user is no member of the committee, `LastChair` if the user is the
+    /// only chair.
+    ///
+    /// # Cost
+    ///
+    /// One read by number, and where the user is a chair a walk over the accounts.
     pub fn judge_dismiss(&self, by: &Standing, target: &Option<UserNo>) -> Result<(), Rule>
         ensures { result ≡ judged (dismiss_checks by.now
             (option_map of_role (option_and_then (role_at self.now.accounts) target.now))
@@ -206,7 +259,7 @@ impl Accounts {
         self.may_dismiss(by, now)
     }
 
-    /// The same of somebody who has the role `now`.
+    /// Checks whether the caller may dismiss a user who has the role `now`.
     fn may_dismiss(&self, by: &Standing, now: Role) -> Result<(), Rule>
         ensures { result ≡ judged (dismiss_checks by.now (Some (of_role now))
             (chair_count (lines_of self.now.accounts))) tt }
@@ -226,14 +279,22 @@ impl Accounts {
         Ok(())
     }
 
-    /// How many users are chairs. One walk over the accounts; takes no memory.
+    /// Returns how many users are chairs.
+    ///
+    /// # Cost
+    ///
+    /// One walk over the accounts. Takes no memory.
     fn chair_count(&self) -> usize
         ensures { result ≡ chair_count (lines_of self.now.accounts) }
     {
         chairs_among(&self.accounts)
     }
 
-    /// How many users are members of the committee, chairs among them. One walk over the accounts; takes no memory.
+    /// Returns how many users are members of the committee, chairs among them.
+    ///
+    /// # Cost
+    ///
+    /// One walk over the accounts. Takes no memory.
     pub fn member_count(&self) -> u64
         ensures count { result ≡ length (filter (λ line. is_member line.role) (lines_of self.now.accounts)) }
         ensures few { result ≤ 9999 }
@@ -245,8 +306,15 @@ impl Accounts {
         count
     }
 
-    /// Every account, by user number, as everyone sees it; an error only for lack of memory. Reads
-    /// and copies each account.
+    /// Returns every account, by user number, as everyone sees it.
+    ///
+    /// # Errors
+    ///
+    /// If memory runs out.
+    ///
+    /// # Cost
+    ///
+    /// Reads and copies each account.
     pub fn lines(&self, alloc: Global) -> Result<AccountLines, AllocError>
         ensures { IfOk result (λ lines. lines ≡ lines_of self.now.accounts) }
     {
@@ -261,8 +329,11 @@ impl Accounts {
         Ok(AccountLines::from_vec(lines))
     }
 
-    /// Takes the memory that the entries of one command need; an error only for lack of memory,
-    /// and the accounts are the same either way.
+    /// Takes the memory that the entries of one command need. The accounts don't change.
+    ///
+    /// # Errors
+    ///
+    /// If memory runs out.
     pub fn room(&mut self, group: &[Stamped]) -> Result<(), AllocError>
         ensures ok { OnOk result (length group.now ≤ self.new.room) }
         ensures same { self.new.accounts ≡ self.old.accounts }
@@ -272,7 +343,11 @@ impl Accounts {
         self.by_name.reserve(group.len())
     }
 
-    /// One more entry, for which there is room; takes no memory.
+    /// Applies one more entry, for which there is room.
+    ///
+    /// # Cost
+    ///
+    /// Takes no memory.
     pub fn apply(&mut self, stamped: &Stamped)
         requires room { 0 < self.old.room }
         requires fits { AccountsFit self.old.accounts stamped.now.entry }

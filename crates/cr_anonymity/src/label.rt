@@ -4,8 +4,12 @@ ghost use Rattle.cr_anonymity.specs.Letters.{letter_of};
 
 use cr_base::Ordinal;
 
-/// The letter that a reviewer is called by on a paper: A for the ordinal 1, and so on to Z for 26; its code
-/// in ASCII, from 65 to 90. Takes no memory.
+/// Returns the letter that a reviewer is called by on a paper: A for the ordinal 1, and so on to Z for 26; its code in
+/// ASCII, from 65 to 90.
+///
+/// # Cost
+///
+/// Takes no memory.
 pub fn letter(ordinal: Ordinal) -> u8
     ensures letter { result ≡ letter_of ordinal }
     ensures low { 65 ≤ result }

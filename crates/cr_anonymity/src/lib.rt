@@ -1,4 +1,9 @@
-//! Who sees the names: of authors, of reviewers and of those who comment.
+//! Which callers are shown the names of authors, reviewers and commenters.
+//!
+//! # Proved
+//!
+//! - They are those of the defined tests: `shows_author`, `shows_reviewer`, `shows_writer`.
+//! - A label is the letter of its ordinal: `letter`.
 #![tactic(auto)]
 
 mod label;

@@ -4,9 +4,13 @@ ghost use Rattle.cr_base.specs.Page.{shows_author, shows_reviewer, shows_writer}
 
 use cr_base::Standing;
 
-/// Whether a caller is told who wrote a paper: to authors always; from bidding on to chairs who
-/// aren't in conflict with it, and to such members and externals unless the mode is anonymous; to everyone
-/// where the paper is accepted. `by` is the caller's standing at the paper. Takes no memory.
+/// Returns whether a caller is told who wrote a paper: to authors always; from bidding on to unconflicted chairs, and
+/// to such members and externals unless the mode is anonymous; to everyone where the paper is accepted. `by` is the
+/// caller's standing at the paper.
+///
+/// # Cost
+///
+/// Takes no memory.
 pub fn shows_author(by: &Standing, accepted: bool) -> bool
     ensures { result ≡ shows_author by.now accepted }
 {
@@ -16,9 +20,13 @@ pub fn shows_author(by: &Standing, accepted: bool) -> bool
         || accepted
 }
 
-/// Whether a caller is told who reviews a paper: from bidding on to chairs who aren't in conflict with
-/// it; from discussion to such members unless the mode is anonymous; from notification to authors in
-/// the open mode. `by` is the caller's standing at the paper. Takes no memory.
+/// Returns whether a caller is told who reviews a paper: from bidding on to unconflicted chairs; from discussion to
+/// such members unless the mode is anonymous; from notification to authors in the open mode. `by` is the caller's
+/// standing at the paper.
+///
+/// # Cost
+///
+/// Takes no memory.
 pub fn shows_reviewer(by: &Standing) -> bool
     ensures { result ≡ shows_reviewer by.now }
 {
@@ -27,9 +35,12 @@ pub fn shows_reviewer(by: &Standing) -> bool
         || (by.author && by.mode.is_overt() && by.phase.authors_see_reviewers())
 }
 
-/// Whether a caller is told who wrote a comment on a paper: from discussion to chairs who aren't in
-/// conflict with it, and to such members unless the mode is anonymous. `by` is the caller's standing
-/// at the paper. Takes no memory.
+/// Returns whether a caller is told who wrote a comment on a paper: from discussion to unconflicted chairs, and to
+/// such members unless the mode is anonymous. `by` is the caller's standing at the paper.
+///
+/// # Cost
+///
+/// Takes no memory.
 pub fn shows_writer(by: &Standing) -> bool
     ensures { result ≡ shows_writer by.now }
 {

@@ -5,7 +5,7 @@ ghost use Rattle.cr_base.specs.Lists.{is_nothing, last_or};
 
 use cr_base::{Entry, Ordinal, PaperNo, Stamped, UserNo};
 
-/// The ordinal under which the user reviews the paper after the entry, where `held` is the one before.
+/// Returns the ordinal under which the user reviews the paper after the entry, where `held` is the one before.
 fn seat_after(
     held: Option<Ordinal>,
     stamped: &Stamped,
@@ -30,7 +30,11 @@ fn seat_after(
     }
 }
 
-/// The same after all of the entries. A walk over them.
+/// Returns the ordinal under which the user reviews the paper after all of the entries.
+///
+/// # Cost
+///
+/// A walk over them.
 pub(crate) fn seat_behind(
     held: Option<Ordinal>,
     earlier: &[Stamped],
@@ -44,7 +48,7 @@ pub(crate) fn seat_behind(
     })
 }
 
-/// Whether the entry gives somebody a label of the paper.
+/// Returns whether the entry gives somebody a label of the paper.
 fn gives_label(stamped: &Stamped, paper: PaperNo) -> bool
     ensures { result ≡ not (is_nothing (assigned_told paper stamped.now.entry)) }
 {
@@ -54,7 +58,11 @@ fn gives_label(stamped: &Stamped, paper: PaperNo) -> bool
     }
 }
 
-/// How many of the entries do. A walk over them.
+/// Returns how many of the entries do.
+///
+/// # Cost
+///
+/// A walk over them.
 pub(crate) fn labels_given(earlier: &[Stamped], paper: PaperNo) -> usize
     ensures { result ≡ count_by (λ e. not (is_nothing (assigned_told paper e.entry))) earlier.now }
 {
@@ -64,7 +72,7 @@ pub(crate) fn labels_given(earlier: &[Stamped], paper: PaperNo) -> usize
         .count()
 }
 
-/// Whether the user is invited to the paper after the entry, where `invited` says it of before.
+/// Returns whether the user is invited to the paper after the entry, where `invited` says it of before.
 fn invited_after(invited: bool, stamped: &Stamped, user: UserNo, paper: PaperNo) -> bool
     ensures { result ≡ last_or invited (invite_told (Some user) paper stamped.now.entry) }
 {
@@ -81,7 +89,11 @@ fn invited_after(invited: bool, stamped: &Stamped, user: UserNo, paper: PaperNo)
     }
 }
 
-/// The same after all of the entries. A walk over them.
+/// Returns whether the user is invited to the paper after all of the entries.
+///
+/// # Cost
+///
+/// A walk over them.
 pub(crate) fn invited_behind(
     invited: bool,
     earlier: &[Stamped],

@@ -7,8 +7,8 @@ ghost use Rattle.cr_assign.specs.Targets.{target_with};
 
 use cr_base::{MOST_LABELS, Ordinal, Role, Rule, Standing, Target};
 
-/// Assigning a member or an external of the paper who is in no conflict with it and doesn't review it: the label
-/// behind the `labels` that were given.
+/// Checks an assignment: of a member or an external of the paper who is unconflicted and doesn't review it. Returns
+/// the label after the `labels` that were given.
 pub(crate) fn assign(
     by: &Standing,
     withdrawn: bool,
@@ -38,7 +38,8 @@ pub(crate) fn assign(
     Ok(Ordinal::new(labels + 1))
 }
 
-/// Taking off who reviews the paper under the ordinal `held`, where no form is written under it: that ordinal.
+/// Checks an unassignment: of the user who reviews the paper under the ordinal `held`, if no form is written under it.
+/// Returns that ordinal.
 pub(crate) fn unassign(
     by: &Standing,
     withdrawn: bool,
@@ -61,7 +62,7 @@ pub(crate) fn unassign(
     }
 }
 
-/// Inviting a user who is no member, is in no conflict with the paper, and isn't invited to it.
+/// Checks an invitation: of a user who is no member, is unconflicted, and isn't invited to the paper.
 pub(crate) fn invite(
     by: &Standing,
     withdrawn: bool,
@@ -89,8 +90,8 @@ pub(crate) fn invite(
     Ok(())
 }
 
-/// Taking an invitation to the paper back, of a user who has one and doesn't review it: `held` is the ordinal under
-/// which she does.
+/// Checks the end of an invitation: of a user who has one and doesn't review the paper; `held` is the ordinal under
+/// which the user does.
 pub(crate) fn uninvite(
     by: &Standing,
     withdrawn: bool,

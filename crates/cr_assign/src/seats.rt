@@ -33,9 +33,11 @@ use std::sync::ledger::Ledger;
 
 /// Who is assigned to which paper, under which label, and who has left it; and who is invited to which.
 ///
-/// Contracts see the seats paper by paper, those of a paper by label, the invitations by paper, and for how many more
-/// of each paper and of each user there is room. Who reviews what is found by user too; that this agrees is true of
-/// every table, and so is that the labels of a paper are numbered from 1 and are at most 26.
+/// # Model
+///
+/// The seats paper by paper, those of a paper by label, the invitations by paper, and for how many more of each paper
+/// and of each user there is room. Every table finds who reviews what by user as well, and the labels of a paper are
+/// numbered from 1 and are at most 26.
 #[derive(Drop)]
 pub struct Seats {
     alloc: Global,
@@ -69,7 +71,7 @@ impl Model for Seats {
         × AreOwn (λ seat. seat.pair.paper) t.seats.files };
 }
 
-/// A user who takes a seat at a paper.
+/// Returns a user who takes a seat at a paper.
 fn taken(paper: PaperNo, user: UserNo, kind: Kind, ordinal: Ordinal) -> Tie<Seat>
     ensures { result ≡ seat_tie paper user kind ordinal }
 {
@@ -83,7 +85,7 @@ fn taken(paper: PaperNo, user: UserNo, kind: Kind, ordinal: Ordinal) -> Tie<Seat
     }
 }
 
-/// A seat that its user has left.
+/// Returns a seat that its user has left.
 fn left(seat: &Tie<Seat>) -> Tie<Seat>
     ensures { result ≡ vacated seat.now }
 {
@@ -97,7 +99,7 @@ fn left(seat: &Tie<Seat>) -> Tie<Seat>
     }
 }
 
-/// A paper and a user who are tied.
+/// Returns a paper and a user who are tied.
 fn bare(paper: PaperNo, user: UserNo) -> Tie<()>
     ensures { result ≡ bare_tie paper user }
 {
@@ -109,7 +111,11 @@ fn bare(paper: PaperNo, user: UserNo) -> Tie<()>
 
 /// What is read.
 impl Seats {
-    /// No assignments and no invitations; takes no memory.
+    /// Creates one without assignments and no invitations.
+    ///
+    /// # Cost
+    ///
+    /// Takes no memory.
     pub fn new(alloc: Global) -> Seats
         ensures seats { result.seats ≡ no_seats }
         ensures invites { result.invites ≡ no_invites }
@@ -122,8 +128,12 @@ impl Seats {
         }
     }
 
-    /// The seats of the paper, by label, at most 26; those that somebody has left are marked. None where
-    /// there is no such paper. Found by number; a step for each. Takes no memory.
+    /// Returns the seats of the paper, by label, at most 26; those that somebody has left are marked. `None` if there
+    /// is no such paper.
+    ///
+    /// # Cost
+    ///
+    /// Found by number; a step for each. Takes no memory.
     pub fn seats<L: Ledger>(&self, paper: PaperNo, steps: &mut Steps<L>) -> &[Tie<Seat>]
         ensures ties { result.now ≡ ties_of ByPaper paper self.now.seats }
         ensures few { length result.now ≤ 26 }
@@ -132,8 +142,11 @@ impl Seats {
         self.seats.of_paper(paper, steps)
     }
 
-    /// The ordinal of the label under which the user reviews the paper, and none where she doesn't. Found by
-    /// number, and a walk over the paper's seats; a step for each of them.
+    /// Returns the ordinal of the label under which the user reviews the paper, or `None` if the user doesn't.
+    ///
+    /// # Cost
+    ///
+    /// Found by number, and a walk over the paper's seats; a step for each of them.
     pub fn ordinal_of<L: Ledger>(
         &self,
         user: UserNo,
@@ -150,8 +163,11 @@ impl Seats {
             .map(|seat| seat.value.ordinal)
     }
 
-    /// Whether the user reviews the paper. Found by number, and a walk over the paper's seats; a step for each of
-    /// them.
+    /// Returns whether the user reviews the paper.
+    ///
+    /// # Cost
+    ///
+    /// Found by number, and a walk over the paper's seats; a step for each of them.
     pub fn is_reviewer<L: Ledger>(&self, user: UserNo, paper: PaperNo, steps: &mut Steps<L>) -> bool
         ensures value { result ≡ is_some (ordinal_in self.now.seats (Some user) paper) }
         ensures steps { Takes (length (ties_of ByPaper paper self.now.seats)) steps.old steps.new }
@@ -159,8 +175,11 @@ impl Seats {
         self.ordinal_of(user, paper, steps).is_some()
     }
 
-    /// How many labels the paper's reviewers were given, those who have left among them: 0 to 26. One
-    /// read by number; reads no seat.
+    /// Returns how many labels the paper's reviewers were given, those who have left among them: 0 to 26.
+    ///
+    /// # Cost
+    ///
+    /// One read by number; reads no seat.
     pub fn labels_drawn(&self, paper: PaperNo) -> u64
         ensures value { result ≡ labels_in self.now.seats paper }
         ensures few { result ≤ 26 }
@@ -168,7 +187,10 @@ impl Seats {
         self.seats.count_of(paper) as u64
     }
 
-    /// The papers that the user reviews, in the order of their numbers, with the ordinals of her labels.
+    /// Returns the papers that the user reviews, in the order of their numbers, with the ordinals of their labels.
+    ///
+    /// # Cost
+    ///
     /// Found by number; a step for each. Takes no memory.
     pub fn reviewed<L: Ledger>(&self, user: UserNo, steps: &mut Steps<L>) -> &[Tie<Ordinal>]
         ensures papers { (p : _) → list_any (λ m. p == m) (map (λ t. t.pair.paper) result.now)
@@ -180,9 +202,12 @@ impl Seats {
         self.reviewing.of(user.number(), steps)
     }
 
-    /// The ordinal under which the user reviews the paper behind earlier entries of the same command. Found
-    /// by number, a walk over the paper's seats, and one over the entries, of which there are none but in a
-    /// command of many parts.
+    /// Returns the ordinal under which the user reviews the paper after earlier entries of the same command.
+    ///
+    /// # Cost
+    ///
+    /// Found by number, a walk over the paper's seats, and one over the entries, which only a command of many parts
+    /// has.
     pub fn ordinal_behind(
         &self,
         user: UserNo,
@@ -198,8 +223,11 @@ impl Seats {
         seat_behind(held, earlier, user, paper)
     }
 
-    /// Whether the user is invited to the paper, be she a member since or not. The paper's invitations are found by
-    /// number; a step for each of them at which the binary search looks.
+    /// Returns whether the user is invited to the paper, be the user a member since or not.
+    ///
+    /// # Cost
+    ///
+    /// The paper's invitations are found by number; a step for each of them at which the binary search looks.
     pub fn is_invited<L: Ledger>(&self, user: UserNo, paper: PaperNo, steps: &mut Steps<L>) -> bool
         ensures value { result ≡ is_invited_in self.now.invites (Some user) paper }
         ensures steps { Halves (length (users_tied_to paper self.now.invites)) steps.old steps.new }
@@ -207,8 +235,11 @@ impl Seats {
         self.invites.contains(&Pair { paper, user }, steps)
     }
 
-    /// Whether the user, who has this role, is an external of the paper: no member, and invited to it. As many
-    /// steps at most, and none where she is a member.
+    /// Returns whether the user, who has this role, is an external of the paper: no member, and invited to it.
+    ///
+    /// # Cost
+    ///
+    /// At most that of `is_invited`; no step for a member.
     pub fn is_external<L: Ledger>(
         &self,
         user: UserNo,
@@ -225,7 +256,11 @@ impl Seats {
         self.is_invited(user, paper, steps)
     }
 
-    /// Whether she is invited to it behind earlier entries of the same command. A binary search, and a walk over them.
+    /// Returns whether the user is invited to it after earlier entries of the same command.
+    ///
+    /// # Cost
+    ///
+    /// A binary search, and a walk over them.
     fn is_invited_behind(&self, user: UserNo, paper: PaperNo, earlier: &[Stamped]) -> bool
         ensures { result ≡ is_invited_in (invites_from self.now.invites earlier.now) (Some user) paper }
     {
@@ -233,7 +268,11 @@ impl Seats {
         invited_behind(invited, earlier, user, paper)
     }
 
-    /// Whether the user, who has this role, is an external of the paper, behind these entries. As much.
+    /// Returns whether the user, who has this role, is an external of the paper, after these entries.
+    ///
+    /// # Cost
+    ///
+    /// At most that of `is_external`, and a walk over the entries.
     pub fn is_external_behind(
         &self,
         user: UserNo,
@@ -247,8 +286,11 @@ impl Seats {
         !role.is_member() && self.is_invited_behind(user, paper, earlier)
     }
 
-    /// The papers to which the user is invited, in the order of their numbers. Found by number; a step for each.
-    /// Takes no memory.
+    /// Returns the papers to which the user is invited, in the order of their numbers.
+    ///
+    /// # Cost
+    ///
+    /// Found by number; a step for each. Takes no memory.
     pub fn inviting<L: Ledger>(&self, user: UserNo, steps: &mut Steps<L>) -> &[Tie<()>]
         ensures papers { map (λ t. t.pair.paper) result.now ≡ papers_tied_to user self.now.invites }
         ensures rising { IsRising (papers_tied_to user self.now.invites) }
@@ -257,25 +299,32 @@ impl Seats {
         self.invites.of_user(user, steps)
     }
 
-    /// How many labels the paper's reviewers were given, behind earlier entries of the same command. One
-    /// read by number, and a walk over the entries.
+    /// Returns how many labels the paper's reviewers were given, after earlier entries of the same command.
+    ///
+    /// # Cost
+    ///
+    /// One read by number, and a walk over the entries.
     fn labels_behind(&self, paper: PaperNo, earlier: &[Stamped]) -> u64
         ensures { result ≡ labels_in (seats_from self.now.seats earlier.now) paper }
     {
         self.labels_drawn(paper) + labels_given(earlier, paper) as u64
     }
 
-    /// Whether the caller may assign this user to this paper, and then the ordinal of the label that she
-    /// gets; or the first broken rule. All of it behind earlier entries of the same command, each of which
-    /// fits in its turn. `by` is the caller's standing at the paper; `paper` is none where there is no such
-    /// paper, `target` none where there is no such user. Whether the paper is withdrawn, and whether the
-    /// user is in conflict with it, stands in none of the seats. Two reads by number, a walk over the paper's
-    /// seats, and of one who is no member a binary search among its invitations; and three walks at most over the
-    /// earlier entries, of which there are none but in a command of many parts.
+    /// Checks whether the caller may assign this user to this paper, and returns the ordinal of the user's label. All
+    /// of it after earlier entries of the same command, each of which fits in its turn. `by` is the caller's standing
+    /// at the paper; `paper` is none if there is no such paper, `target` none if there is no such user. Whether the
+    /// paper is withdrawn, and whether the user is in conflict with it, isn't in the seats.
     ///
-    /// In this order: `NoPaper`, `NoUser`, `NotChair`, `Conflict` where the caller is in conflict with the
-    /// paper, `WrongPhase` before the bidding or after the discussion, `Withdrawn`, `NotAMember`,
-    /// `TargetConflict`, `AlreadyAssigned`, `LabelsSpent` where 26 labels were given.
+    /// # Errors
+    ///
+    /// The first broken rule, in this order: `NoPaper`, `NoUser`, `NotChair`, `Conflict` if the caller is in conflict
+    /// with the paper, `WrongPhase` before the bidding or after the discussion, `Withdrawn`, `NotAMember`,
+    /// `TargetConflict`, `AlreadyAssigned`, `LabelsSpent` if 26 labels were given.
+    ///
+    /// # Cost
+    ///
+    /// Two reads by number, a walk over the paper's seats, and for a user who is no member a binary search among its
+    /// invitations; three walks at most over the earlier entries, which only a command of many parts has.
     pub fn judge_assign(
         &self,
         by: &Standing,
@@ -312,13 +361,18 @@ impl Seats {
         judging::assign(by, withdrawn, &target, labels)
     }
 
-    /// Whether the caller may take this user off this paper, and then the ordinal under which she reviews
-    /// it; or the first broken rule. The parameters are those of `judge_assign`, and `has_form`, whether a
-    /// form is written under the user's label, which stands in none of the seats either. It costs one read by
-    /// number, a walk over the paper's seats and one over the earlier entries.
+    /// Returns whether the caller may take this user off this paper, and then the ordinal under which the user reviews
+    /// it. The parameters are those of `judge_assign`, and `has_form`, whether a form is written under the user's
+    /// label, which is in none of the seats either.
     ///
-    /// In this order: `NoPaper`, `NoUser`, `NotChair`, `Conflict`, `WrongPhase`, `Withdrawn`,
-    /// `NotAssigned`, `HasReview` where a form is written.
+    /// # Errors
+    ///
+    /// The first broken rule, in this order: `NoPaper`, `NoUser`, `NotChair`, `Conflict`, `WrongPhase`, `Withdrawn`,
+    /// `NotAssigned`, `HasReview` if a form is written.
+    ///
+    /// # Cost
+    ///
+    /// One read by number, a walk over the paper's seats and one over the earlier entries.
     pub fn judge_unassign(
         &self,
         by: &Standing,
@@ -345,12 +399,17 @@ impl Seats {
         judging::unassign(by, withdrawn, has_form, held)
     }
 
-    /// Whether the caller may invite this user to this paper, or the first broken rule. The parameters are those of
-    /// `judge_assign`; a bulk invites nobody, so there are no earlier entries. Two reads by number at most, and a
-    /// binary search among the paper's invitations.
+    /// Checks whether the caller may invite this user to this paper. The parameters are those of `judge_assign`; a
+    /// bulk has no invitations, so there are no earlier entries.
     ///
-    /// In this order: `NoPaper`, `NoUser`, `NotChair`, `Conflict`, `WrongPhase`, `Withdrawn`, `IsMember`,
-    /// `TargetConflict`, `AlreadyInvited`.
+    /// # Errors
+    ///
+    /// The first broken rule, in this order: `NoPaper`, `NoUser`, `NotChair`, `Conflict`, `WrongPhase`, `Withdrawn`,
+    /// `IsMember`, `TargetConflict`, `AlreadyInvited`.
+    ///
+    /// # Cost
+    ///
+    /// Two reads by number at most, and a binary search among the paper's invitations.
     pub fn judge_invite(
         &self,
         by: &Standing,
@@ -375,12 +434,17 @@ impl Seats {
         judging::invite(by, withdrawn, *role, target_conflicted, invited)
     }
 
-    /// Whether the caller may take back this user's invitation to this paper, or the first broken rule. The
-    /// parameters are those of `judge_invite`. Two reads by number at most, a binary search among the paper's
-    /// invitations and a walk over its seats.
+    /// Checks whether the caller may take back this user's invitation to this paper. The parameters are those of
+    /// `judge_invite`.
     ///
-    /// In this order: `NoPaper`, `NoUser`, `NotChair`, `Conflict`, `WrongPhase`, `Withdrawn`, `NotInvited`,
-    /// `StillAssigned` where she reviews the paper.
+    /// # Errors
+    ///
+    /// The first broken rule, in this order: `NoPaper`, `NoUser`, `NotChair`, `Conflict`, `WrongPhase`, `Withdrawn`,
+    /// `NotInvited`, `StillAssigned` if the user reviews the paper.
+    ///
+    /// # Cost
+    ///
+    /// Two reads by number at most, a binary search among the paper's invitations and a walk over its seats.
     pub fn judge_uninvite(
         &self,
         by: &Standing,
@@ -408,8 +472,15 @@ impl Seats {
 
 /// What entries make of it.
 impl Seats {
-    /// Takes the memory that the entries of one command need; an error only for lack of memory, and the
-    /// seats are the same either way. Each assignment is compared with those before it.
+    /// Takes the memory that the entries of one command need. The seats don't change.
+    ///
+    /// # Errors
+    ///
+    /// If memory runs out.
+    ///
+    /// # Cost
+    ///
+    /// Each assignment is compared with those before it.
     pub fn room(&mut self, group: &[Stamped]) -> Result<(), AllocError>
         ensures ok { OnOk result (SeatsHaveRoom group.now self.new.rooms) }
         ensures same { self.new.seats ≡ self.old.seats }
@@ -424,7 +495,11 @@ impl Seats {
         self.invites.room(&invited)
     }
 
-    /// One more seat, under the paper's next label, of a user who has none there; takes no memory.
+    /// Adds a seat, under the paper's next label, for a user who has none there.
+    ///
+    /// # Cost
+    ///
+    /// Takes no memory.
     fn add(&mut self, paper: PaperNo, user: UserNo, kind: Kind, ordinal: Ordinal)
         requires room { 0 < slice_index self.old.rooms.seats paper }
         requires room_by_user { 0 < slice_index self.old.rooms.reviewing user }
@@ -443,7 +518,11 @@ impl Seats {
         });
     }
 
-    /// The seat of this ordinal is left by its user, who reviews the paper under it; takes no memory.
+    /// Marks the seat of this ordinal as left; its user reviews the paper under it.
+    ///
+    /// # Cost
+    ///
+    /// Takes no memory.
     fn vacate(&mut self, paper: PaperNo, user: UserNo, ordinal: Ordinal)
         requires fits { SeatsFit self.old.seats (Unassigned paper user ordinal) }
         ensures after { self.new.seats ≡ without_seat paper ordinal self.old.seats }
@@ -459,7 +538,11 @@ impl Seats {
         self.reviewing.remove(&Pair { paper, user });
     }
 
-    /// The user is invited to the paper from now on; takes no memory.
+    /// Invites the user to the paper.
+    ///
+    /// # Cost
+    ///
+    /// Takes no memory.
     fn invite(&mut self, paper: PaperNo, user: UserNo)
         requires room { 0 < slice_index self.old.rooms.invites paper }
         requires room_by_user { 0 < slice_index self.old.rooms.inviting user }
@@ -473,7 +556,11 @@ impl Seats {
         self.invites.insert(bare(paper, user));
     }
 
-    /// The user is no longer; takes no memory.
+    /// Takes the user's invitation back.
+    ///
+    /// # Cost
+    ///
+    /// Takes no memory.
     fn uninvite(&mut self, paper: PaperNo, user: UserNo)
         ensures after { self.new.invites ≡ without_pair (pair_of paper user) self.old.invites }
         ensures seats { self.new.seats ≡ self.old.seats }
@@ -485,10 +572,13 @@ impl Seats {
         self.invites.remove(&Pair { paper, user });
     }
 
-    /// One more entry, for which there is room; takes no memory. An assignment gives the paper's next label
-    /// to a user who doesn't review it, and who is taken off a paper reviews it under the label told. Either
-    /// costs two reads by number and a binary search among the papers that the user reviews, and a move of those
-    /// behind it, of 6 bytes each; an invitation, and the end of one, two reads and two such searches.
+    /// Applies one more entry, for which there is room; takes no memory. An assignment gives the paper's next label to
+    /// a user who doesn't review it, and who is taken off a paper reviews it under the label told.
+    ///
+    /// # Cost
+    ///
+    /// Either costs two reads by number and a binary search among the papers that the user reviews, and a move of
+    /// those after it, of 6 bytes each; an invitation, and the end of one, two reads and two such searches.
     pub fn apply(&mut self, stamped: &Stamped)
         requires room { SeatsHaveRoom (stamped.now ∷ []) self.old.rooms }
         requires fits { SeatsFit self.old.seats stamped.now.entry }

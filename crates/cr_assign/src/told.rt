@@ -6,7 +6,7 @@ ghost use Rattle.cr_assign.specs.Room.{assigned_pair, invited_pair};
 use cr_base::{Entry, Pair, Stamped};
 use std::alloc::{AllocError, Global};
 
-/// The paper and the user whom the entry assigns to it, where it does.
+/// Returns the paper and the user that the entry assigns to it, if it does.
 fn assigned_pair(stamped: &Stamped) -> Option<Pair>
     ensures { result ≡ assigned_pair stamped.now }
 {
@@ -19,8 +19,15 @@ fn assigned_pair(stamped: &Stamped) -> Option<Pair>
     }
 }
 
-/// Those of all the entries, in their order. A walk over them; an error only for lack of memory, and no memory is
-/// taken where there are none.
+/// Returns the pairs of all assignments among the entries, in their order.
+///
+/// # Errors
+///
+/// If memory runs out.
+///
+/// # Cost
+///
+/// A walk over them. Takes no memory if there are none.
 pub(crate) fn assigned_pairs(alloc: Global, group: &[Stamped]) -> Result<Vec<Pair>, AllocError>
     ensures { IfOk result (λ pairs. pairs.items ≡ filter_map assigned_pair group.now) }
 {
@@ -30,7 +37,7 @@ pub(crate) fn assigned_pairs(alloc: Global, group: &[Stamped]) -> Result<Vec<Pai
         .collect(alloc)
 }
 
-/// The paper and the user whom the entry invites to it, where it does.
+/// Returns the paper and the user that the entry invites to it, if it does.
 fn invited_pair(stamped: &Stamped) -> Option<Pair>
     ensures { result ≡ invited_pair stamped.now }
 {
@@ -43,7 +50,15 @@ fn invited_pair(stamped: &Stamped) -> Option<Pair>
     }
 }
 
-/// Those of all the entries, in their order. A walk over them; an error only for lack of memory.
+/// Returns those of all the entries, in their order.
+///
+/// # Errors
+///
+/// If memory runs out.
+///
+/// # Cost
+///
+/// A walk over them.
 pub(crate) fn invited_pairs(alloc: Global, group: &[Stamped]) -> Result<Vec<Pair>, AllocError>
     ensures { IfOk result (λ pairs. pairs.items ≡ filter_map invited_pair group.now) }
 {

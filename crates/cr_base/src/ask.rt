@@ -2,7 +2,7 @@
 ghost use Rattle.std.specs.Prelude.{◌≡◌};
 ghost use Rattle.cr_base.specs.Logins.{ask_reads_credentials, ask_wants_login};
 
-/// What a request asks for, by its path and its method alone.
+/// What a request asks for, by its path and its method only.
 #[derive(Clone, Copy, PartialEq, Eq)]
 pub enum Ask {
     /// A new account: POST of `/register`.
@@ -37,7 +37,7 @@ pub enum Ask {
     Upload,
     /// A version of a paper's content: GET or HEAD of `/papers/{p}/content/{v}`.
     Version,
-    /// Whether a user is in conflict with a paper: POST of `/papers/{p}/conflicts`.
+    /// A user is in conflict with a paper, or no longer: POST of `/papers/{p}/conflicts`.
     SetConflict,
     /// The caller's bid on a paper: PUT of `/papers/{p}/bid`.
     Bid,
@@ -90,9 +90,9 @@ pub enum Ask {
 }
 
 impl Ask {
-    /// Whether it is a registered user's, so that nobody is answered `unauthorized`: every command but a registration,
-    /// a bulk, a paper's page, content, reviews, response and comments, searches, reports, plans, and what the caller
-    /// is to the conference. Page and content of a published paper want none, which only the history tells.
+    /// Returns whether the request requires authentication: every command except a registration, a bulk, a paper's
+    /// page, content, reviews, response and comments, searches, reports, plans, and what the caller is to the
+    /// conference. Page and content of a published paper require none, which only the history tells.
     pub fn wants_login(self) -> bool
         ensures { result ≡ ask_wants_login self }
     {
@@ -113,8 +113,9 @@ impl Ask {
         }
     }
 
-    /// Whether a request for it reads the field Authorization: those that are a registered user's, also where what is
-    /// published wants no login, since of a published paper those who say who they are may be told more.
+    /// Returns whether a request for it reads the field Authorization: those that are a registered user's, also where
+    /// what is published requires no authentication, since of a published paper those who say who they are may be told
+    /// more.
     pub fn reads_credentials(self) -> bool
         ensures { result ≡ ask_reads_credentials self }
     {

@@ -7,7 +7,11 @@ use std::marker::Model;
 /// The highest bid plus 20, as rows spell it.
 pub(crate) const HIGHEST_RAISED: u64 = 40;
 
-/// A bid on a paper, from -20 to 20; 0 where none was told. Contracts see it plus 20, as rows spell it.
+/// A bid on a paper, from -20 to 20; 0 where none was told.
+///
+/// # Model
+///
+/// It plus 20, as rows spell it.
 #[derive(Clone, Copy, PartialEq, Eq)]
 pub struct Bid {
     raised: u8,
@@ -26,14 +30,14 @@ impl Model for Bid {
 }
 
 impl Bid {
-    /// The bid of who has told none: 0.
+    /// Returns the bid of who has told none: 0.
     pub fn zero() -> Bid
         ensures { result ≡ no_bid }
     {
         Bid { raised: 20 }
     }
 
-    /// The bid of this value, and none where it isn't one from -20 to 20.
+    /// Returns the bid of this value, or `None` if it isn't one from -20 to 20.
     pub fn from_value(value: i64) -> Option<Bid>
         ensures { result ≡ bid_of_value value }
     {
@@ -45,7 +49,7 @@ impl Bid {
         })
     }
 
-    /// The bid that a number from 0 to 40 is, plus 20.
+    /// Returns the bid that a number from 0 to 40 is, plus 20.
     pub(crate) fn from_raised(number: u64) -> Bid
         requires { number ≤ 40 }
         ensures { result ≡ number }
@@ -55,7 +59,7 @@ impl Bid {
         }
     }
 
-    /// The bid plus 20, from 0 to 40.
+    /// Returns the bid plus 20, from 0 to 40.
     pub fn raised(self) -> u64
         ensures value { result ≡ self }
         ensures high { result ≤ 40 }
@@ -63,14 +67,14 @@ impl Bid {
         u64::from(self.raised)
     }
 
-    /// Whether it is less than 0.
+    /// Returns whether it is less than 0.
     pub fn is_negative(self) -> bool
         ensures { result ≡ nat_lt self no_bid }
     {
         self.raised < 20
     }
 
-    /// The bid without its sign, from 0 to 20.
+    /// Returns the bid without its sign, from 0 to 20.
     pub fn size(self) -> u64
         ensures value { result ≡ bid_size self }
         ensures high { result ≤ 20 }

@@ -21,7 +21,7 @@ pub struct BulkRow {
     /// What is to be done: `primary`, `secondary`, `pcreview`, `clearreview`, `conflict`,
     /// `clearconflict`, `tag` or `cleartag`.
     pub action: Blob,
-    /// The name of the user of whom it is to be done; isn't read where it is done with a tag.
+    /// The name of the user concerned; isn't read for a tag.
     pub user: Blob,
     /// The tag; isn't read where it is done of a user.
     pub tag: Blob,
@@ -32,42 +32,45 @@ pub struct BulkRow {
 pub enum RowCommand {
     /// A [`Command::SetConflict`](crate::Command::SetConflict).
     Conflict {
-        /// The paper told; None where what was told is no number of a paper.
+        /// The paper; `None` if the request names no valid paper number.
         paper: Option<PaperNo>,
-        /// The name told of her; None where what was told is no name.
+        /// The user's name; `None` if the request gives no valid name.
         user: Option<Short>,
-        /// Whether she is in conflict from now on.
+        /// True if the user is in conflict from now on.
         on: bool,
     },
     /// A [`Command::Assign`](crate::Command::Assign).
     Assign {
-        /// The paper told; None where what was told is no number of a paper.
+        /// The paper; `None` if the request names no valid paper number.
         paper: Option<PaperNo>,
-        /// The name told of her; None where what was told is no name.
+        /// The user's name; `None` if the request gives no valid name.
         user: Option<Short>,
-        /// What she is to the paper.
+        /// The kind of assignment.
         kind: Kind,
     },
     /// A [`Command::Unassign`](crate::Command::Unassign).
     Unassign {
-        /// The paper told; None where what was told is no number of a paper.
+        /// The paper; `None` if the request names no valid paper number.
         paper: Option<PaperNo>,
-        /// The name told of her; None where what was told is no name.
+        /// The user's name; `None` if the request gives no valid name.
         user: Option<Short>,
     },
     /// A [`Command::Tag`](crate::Command::Tag).
     Tag {
-        /// The paper told; None where what was told is no number of a paper.
+        /// The paper; `None` if the request names no valid paper number.
         paper: Option<PaperNo>,
         /// The tag.
         tag: Tag,
-        /// Whether it is on.
+        /// True if it is on.
         on: bool,
     },
 }
 
 /// The rows of a bulk in their order, at most 512, with room for an entry each: so judging them takes no memory.
-/// Contracts see the list of rows.
+///
+/// # Model
+///
+/// The list of rows.
 #[derive(Drop)]
 pub struct BulkRows {
     rows: Vec<BulkRow>,
@@ -87,7 +90,11 @@ impl Model for BulkRows {
 }
 
 impl BulkRows {
-    /// The rows of a vector, at most 512. Room for their entries is taken; an error only for want of memory.
+    /// Returns the rows of a vector, at most 512. Room for their entries is taken.
+    ///
+    /// # Errors
+    ///
+    /// If memory runs out.
     pub fn from_vec(alloc: Global, rows: Vec<BulkRow>) -> Result<BulkRows, AllocError>
         requires { length rows.items ≤ 512 }
         ensures { IfOk result (λ b. b ≡ rows.items) }
@@ -96,7 +103,7 @@ impl BulkRows {
         Ok(BulkRows { rows, entries })
     }
 
-    /// How many rows there are, 0 to 512.
+    /// Returns how many rows there are, 0 to 512.
     pub fn len(&self) -> usize
         ensures value { result ≡ length self.now }
         ensures few { result ≤ 512 }
@@ -104,7 +111,7 @@ impl BulkRows {
         self.rows.len()
     }
 
-    /// The rows.
+    /// Returns the rows.
     pub fn as_slice(&self) -> &[BulkRow]
         ensures value { result.now ≡ self.now }
         ensures few { length result.now ≤ 512 }
@@ -112,7 +119,11 @@ impl BulkRows {
         self.rows.as_slice()
     }
 
-    /// The rows, and an empty vector with room for an entry each; takes no memory.
+    /// Returns the rows, and an empty vector with room for an entry each.
+    ///
+    /// # Cost
+    ///
+    /// Takes no memory.
     pub fn into_parts(self) -> (Vec<BulkRow>, Vec<Stamped>)
         ensures rows { result.0.items ≡ self }
         ensures few { length self ≤ 512 }
@@ -128,7 +139,7 @@ impl BulkRows {
 pub enum Broken {
     /// A rule on the bulk as a whole.
     Rule(Rule),
-    /// A rule on a row of it, on the state behind the rows before it.
+    /// A rule on one of its rows, on the state after the rows before it.
     Row {
         /// The first row that breaks one, 1 to 512.
         row: u64,

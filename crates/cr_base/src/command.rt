@@ -44,7 +44,7 @@ pub enum Command {
     },
     /// A paper has other texts.
     Revise {
-        /// The paper told; None where what was told is no number of a paper.
+        /// The paper; `None` if the request names no valid paper number.
         paper: Option<PaperNo>,
         /// Its title: UTF-8, 1 to 200 bytes, no control characters.
         title: Text,
@@ -53,19 +53,19 @@ pub enum Command {
     },
     /// A paper has one more version of its content.
     Upload {
-        /// The paper told; None where what was told is no number of a paper.
+        /// The paper; `None` if the request names no valid paper number.
         paper: Option<PaperNo>,
         /// The content: any bytes, at most 4,194,304.
         content: Blob,
     },
     /// A paper is withdrawn.
     Withdraw {
-        /// The paper told; None where what was told is no number of a paper.
+        /// The paper; `None` if the request names no valid paper number.
         paper: Option<PaperNo>,
     },
     /// Somebody becomes a member or a chair.
     Name {
-        /// The name told of her; None where what was told is no name.
+        /// The user's name; `None` if the request gives no valid name.
         user: Option<Short>,
         /// Member or chair.
         role: Role,
@@ -77,69 +77,69 @@ pub enum Command {
     },
     /// Somebody is in conflict with a paper, or no longer.
     SetConflict {
-        /// The paper told; None where what was told is no number of a paper.
+        /// The paper; `None` if the request names no valid paper number.
         paper: Option<PaperNo>,
-        /// The name told of her; None where what was told is no name.
+        /// The user's name; `None` if the request gives no valid name.
         user: Option<Short>,
-        /// Whether she is.
+        /// True if the user is in conflict.
         on: bool,
     },
-    /// The caller tells how much she wants to review a paper.
+    /// The caller's bid on a paper: how much they want to review it.
     Bid {
-        /// The paper told; None where what was told is no number of a paper.
+        /// The paper; `None` if the request names no valid paper number.
         paper: Option<PaperNo>,
         /// The bid told.
         value: Bid,
     },
     /// Somebody reviews a paper.
     Assign {
-        /// The paper told; None where what was told is no number of a paper.
+        /// The paper; `None` if the request names no valid paper number.
         paper: Option<PaperNo>,
-        /// The name told of her; None where what was told is no name.
+        /// The user's name; `None` if the request gives no valid name.
         user: Option<Short>,
-        /// What she is to the paper.
+        /// The kind of assignment.
         kind: Kind,
     },
     /// Somebody no longer reviews a paper.
     Unassign {
-        /// The paper told; None where what was told is no number of a paper.
+        /// The paper; `None` if the request names no valid paper number.
         paper: Option<PaperNo>,
-        /// The name told of her; None where what was told is no name.
+        /// The user's name; `None` if the request gives no valid name.
         user: Option<Short>,
     },
     /// The caller reviews a paper, once more or for the first time.
     Review {
-        /// The paper told; None where what was told is no number of a paper.
+        /// The paper; `None` if the request names no valid paper number.
         paper: Option<PaperNo>,
-        /// What she writes.
+        /// The new version of the review.
         form: Form,
     },
-    /// The authors of a paper, of whom the caller is one, respond to its reviews.
+    /// A response of a paper's authors, one of whom is the caller, to its reviews.
     Respond {
-        /// The paper told; None where what was told is no number of a paper.
+        /// The paper; `None` if the request names no valid paper number.
         paper: Option<PaperNo>,
         /// What they write: UTF-8, 1 to 10,000 bytes.
         text: Text,
     },
     /// The caller comments on a paper.
     Comment {
-        /// The paper told; None where what was told is no number of a paper.
+        /// The paper; `None` if the request names no valid paper number.
         paper: Option<PaperNo>,
-        /// What she writes: UTF-8, 1 to 10,000 bytes.
+        /// The comment: UTF-8, 1 to 10,000 bytes.
         text: Text,
     },
     /// A tag is on at a paper, or no longer.
     Tag {
-        /// The paper told; None where what was told is no number of a paper.
+        /// The paper; `None` if the request names no valid paper number.
         paper: Option<PaperNo>,
         /// The tag.
         tag: Tag,
-        /// Whether it is on.
+        /// True if it is on.
         on: bool,
     },
     /// The committee decides on a paper.
     Decide {
-        /// The paper told; None where what was told is no number of a paper.
+        /// The paper; `None` if the request names no valid paper number.
         paper: Option<PaperNo>,
         /// What it decides.
         decision: Decision,
@@ -148,38 +148,38 @@ pub enum Command {
     SetDeadline {
         /// The phase told: submission, bidding, reviewing, response or discussion.
         phase: Phase,
-        /// Until when what the phase opens may be done; None where it is to have no deadline.
+        /// Until when what the phase opens may be done; `None` if it is to have no deadline.
         until: Option<Deadline>,
     },
     /// Somebody is a member or a chair no longer.
     Dismiss {
-        /// The name told of her; None where what was told is no name.
+        /// The user's name; `None` if the request gives no valid name.
         user: Option<Short>,
     },
     /// Somebody from outside the committee may review a paper.
     Invite {
-        /// The paper told; None where what was told is no number of a paper.
+        /// The paper; `None` if the request names no valid paper number.
         paper: Option<PaperNo>,
-        /// The name told of her; None where what was told is no name.
+        /// The user's name; `None` if the request gives no valid name.
         user: Option<Short>,
     },
     /// Somebody's invitation to a paper is taken back.
     Uninvite {
-        /// The paper told; None where what was told is no number of a paper.
+        /// The paper; `None` if the request names no valid paper number.
         paper: Option<PaperNo>,
-        /// The name told of her; None where what was told is no name.
+        /// The user's name; `None` if the request gives no valid name.
         user: Option<Short>,
     },
 }
 
-/// A command, who gives it, when, and by which number.
+/// A command with its caller, its timestamp and its number.
 #[derive(Drop)]
 pub struct Call {
-    /// Who gives it; nobody registers, and every other command is a user's.
+    /// The caller: `None` for a registration, a user for every other command.
     pub caller: Option<UserNo>,
-    /// The moment of its request.
+    /// The timestamp of its request.
     pub at: Moment,
-    /// The number that its client gave it, with the mark of its request; None where it gave none.
+    /// The number that its client gave it, with the mark of its request; `None` if it gave none.
     pub key: Option<RetryKey>,
     /// What is to change.
     pub command: Command,
@@ -190,7 +190,7 @@ pub struct Call {
 pub enum Query {
     /// What the caller is to the conference.
     Me,
-    /// Who is registered, and in which role.
+    /// The registered users and their roles.
     Accounts,
     /// The phase, the mode and the number of papers.
     Phase,
@@ -200,37 +200,37 @@ pub enum Query {
     AcceptedPapers,
     /// A paper's page.
     Page {
-        /// The paper told; None where what was told is no number of a paper.
+        /// The paper; `None` if the request names no valid paper number.
         paper: Option<PaperNo>,
     },
     /// The last version of a paper's content.
     Content {
-        /// The paper told; None where what was told is no number of a paper.
+        /// The paper; `None` if the request names no valid paper number.
         paper: Option<PaperNo>,
     },
     /// A version of a paper's content.
     Version {
-        /// The paper told; None where what was told is no number of a paper.
+        /// The paper; `None` if the request names no valid paper number.
         paper: Option<PaperNo>,
         /// The version told; 0, which no version has, where what was told is no number of one.
         version: u64,
     },
     /// The reviews of a paper.
     Reviews {
-        /// The paper told; None where what was told is no number of a paper.
+        /// The paper; `None` if the request names no valid paper number.
         paper: Option<PaperNo>,
     },
     /// The comments on a paper.
     Comments {
-        /// The paper told; None where what was told is no number of a paper.
+        /// The paper; `None` if the request names no valid paper number.
         paper: Option<PaperNo>,
     },
     /// What a paper's authors responded to its reviews.
     Response {
-        /// The paper told; None where what was told is no number of a paper.
+        /// The paper; `None` if the request names no valid paper number.
         paper: Option<PaperNo>,
     },
-    /// The papers of which a search holds, among those whose title the caller is told.
+    /// The papers for which a search holds, among those whose title the caller is told.
     Search {
         /// The search.
         search: Search,
@@ -242,7 +242,7 @@ pub enum Query {
         /// Which one.
         report: Report,
     },
-    /// Who might review the papers besides, by what members bid.
+    /// A plan of further reviewers, by what members bid.
     Plan {
         /// How many more members each paper is to have.
         per_paper: PerPaper,
@@ -252,7 +252,7 @@ pub enum Query {
 }
 
 impl Command {
-    /// The request by which it is given.
+    /// Returns the request by which it is given.
     pub fn ask(&self) -> Ask
         ensures { result ≡ command_ask self.now }
     {
@@ -282,7 +282,7 @@ impl Command {
         }
     }
 
-    /// Whether it is a registered user's, as its request tells: every command but a registration.
+    /// Returns whether its request requires authentication: every command except a registration.
     pub fn wants_login(&self) -> bool
         ensures { result ≡ command_wants_login self.now }
     {
@@ -291,7 +291,7 @@ impl Command {
 }
 
 impl Query {
-    /// The request by which it is asked.
+    /// Returns the request by which it is asked.
     pub fn ask(&self) -> Ask
         ensures { result ≡ query_ask self.now }
     {
@@ -313,9 +313,9 @@ impl Query {
         }
     }
 
-    /// Whether it is a registered user's, as its request tells: every query but the list of accounts, the state of the
-    /// conference, its deadlines and the accepted papers. Nobody may ask for the page and the content of a published
-    /// paper besides.
+    /// Returns whether its request requires authentication: every query except the list of accounts, the state of the
+    /// conference, its deadlines and the accepted papers. Page and content of a published paper require none, which
+    /// only the history tells.
     pub fn wants_login(&self) -> bool
         ensures { result ≡ query_wants_login self.now }
     {

@@ -9,19 +9,19 @@ use crate::texts::{Short, Text};
 pub struct Comment {
     /// Its number among those on the paper, from 1.
     pub n: u64,
-    /// Who wrote it.
+    /// The user who wrote it.
     pub writer: UserNo,
-    /// The ordinal of the label under which she reviewed the paper then; none where she didn't.
+    /// The ordinal of the label under which the writer reviewed the paper then; `None` if they didn't.
     pub ordinal: Option<Ordinal>,
-    /// What she wrote: UTF-8, 1 to 10,000 bytes.
+    /// Its text: UTF-8, 1 to 10,000 bytes.
     pub text: Text,
 }
 
-/// A comment as it is told: its writer by name, or by label where the caller may not be told the name.
+/// A comment as an answer has it: its writer by name, or by label if the caller may not be told the name.
 #[derive(Drop)]
 pub struct CommentLine {
-    /// The ordinal of the label under which the writer reviewed the paper, where the caller
-    /// isn't told her name and she did.
+    /// The ordinal of the label under which the writer reviewed the paper, if they did and the caller isn't told their
+    /// name.
     pub label: Option<Ordinal>,
     /// Its number among those on the paper, from 1.
     pub n: u64,

@@ -13,7 +13,9 @@ pub(crate) const LAST_DEADLINE: u64 = 253_402_207_200;
 /// A deadline: whole seconds since 1970-01-01T00:00:00Z, as those of a [`Moment`], from 1 to 253,402,207,200, which is
 /// 9999-12-30T22:00:00Z. What has one may be done up to that very second.
 ///
-/// Contracts see the seconds.
+/// # Model
+///
+/// The seconds.
 #[derive(Clone, Copy, PartialEq, Eq)]
 pub struct Deadline {
     seconds: u64,
@@ -32,7 +34,7 @@ impl Model for Deadline {
 }
 
 impl Deadline {
-    /// The deadline of so many seconds since 1970-01-01T00:00:00Z; None for 0, and past 253,402,207,200.
+    /// Returns the deadline of so many seconds since 1970-01-01T00:00:00Z; None for 0, and past 253,402,207,200.
     pub fn new(seconds: u64) -> Option<Deadline>
         ensures { result ≡ deadline_of_seconds seconds }
     {
@@ -42,7 +44,7 @@ impl Deadline {
         Some(Deadline { seconds })
     }
 
-    /// Its seconds since 1970-01-01T00:00:00Z.
+    /// Returns its seconds since 1970-01-01T00:00:00Z.
     pub fn seconds(self) -> u64
         ensures value { result ≡ self }
         ensures low { 1 ≤ result }
@@ -51,7 +53,7 @@ impl Deadline {
         self.seconds
     }
 
-    /// Whether that moment is later than its second.
+    /// Returns whether that moment is later than the deadline's second.
     pub fn is_past(self, at: Moment) -> bool
         ensures { result ≡ is_past (Some self) at }
     {
@@ -59,7 +61,7 @@ impl Deadline {
     }
 }
 
-/// The deadlines of a conference: of each phase that may have one its deadline, where it has one.
+/// The deadlines of a conference: of each phase that may have one its deadline, if it has one.
 #[derive(Clone, Copy)]
 pub struct Deadlines {
     /// That of submission.
@@ -75,7 +77,7 @@ pub struct Deadlines {
 }
 
 impl Deadlines {
-    /// No phase has one.
+    /// Returns deadlines of which no phase has one.
     pub fn none() -> Deadlines
         ensures { result ≡ no_deadlines }
     {
@@ -88,7 +90,7 @@ impl Deadlines {
         }
     }
 
-    /// The deadline of a phase. None where it has none; setup, notification and closed never have one.
+    /// Returns the deadline of a phase. `None` if it has none; setup, notification and closed never have one.
     pub fn of(&self, phase: Phase) -> Option<Deadline>
         ensures { result ≡ deadline_in self.now phase }
     {
@@ -104,7 +106,7 @@ impl Deadlines {
         }
     }
 
-    /// Another deadline of this phase, or none any more. A phase that may have none isn't changed.
+    /// Gives this phase another deadline, or none. A phase that may have none isn't changed.
     pub fn set(&mut self, phase: Phase, until: Option<Deadline>)
         ensures { self.new ≡ with_deadline phase until self.old }
     {

@@ -23,14 +23,14 @@ pub enum Entry {
     Registered {
         /// The new user's number: the count of accounts before it plus 1.
         user: UserNo,
-        /// Her name, 1 to 32 of `a-z0-9-`, new when it was registered.
+        /// The new user's name, 1 to 32 of `a-z0-9-`, new when it was registered.
         name: Short,
-        /// The digest of her secret.
+        /// The digest of the user's secret.
         digest: Digest,
     },
     /// A user is a member or a chair from here on.
     Named {
-        /// Who is named.
+        /// The user appointed.
         user: UserNo,
         /// Member or chair.
         role: Role,
@@ -54,8 +54,7 @@ pub enum Entry {
         /// Its abstract: UTF-8, at most 5,000 bytes.
         abstract_: Text,
     },
-    /// A paper has one more author from here on. It stands behind the paper's submission,
-    /// among the entries of that command.
+    /// A paper has one more author. The entry follows the paper's submission, among the entries of that command.
     Coauthor {
         /// The paper.
         paper: PaperNo,
@@ -89,47 +88,47 @@ pub enum Entry {
     Conflict {
         /// The paper.
         paper: PaperNo,
-        /// Who is in conflict with it, or no longer.
+        /// The user in conflict with it, or no longer.
         user: UserNo,
-        /// Whether she is.
+        /// True if the user is in conflict.
         on: bool,
     },
-    /// A member has told how much she wants to review a paper. Her last bid on it counts.
+    /// A member has bid on a paper. Their last bid on it counts.
     Bid {
         /// The paper.
         paper: PaperNo,
         /// How much.
         value: Bid,
     },
-    /// A member, or an external of the paper, reviews it from here on, under a label of her own.
+    /// A member, or an external of the paper, reviews it from here on, under a label of their own.
     Assigned {
         /// The paper.
         paper: PaperNo,
-        /// Who reviews it: she is in no conflict with it.
+        /// The reviewer, who is unconflicted.
         user: UserNo,
-        /// What she is to it.
+        /// The kind of assignment.
         kind: Kind,
-        /// Her label's ordinal: the count of the paper's assignments before it plus 1.
+        /// The ordinal of the reviewer's label: the count of the paper's assignments before it plus 1.
         ordinal: Ordinal,
     },
-    /// A reviewer no longer reviews a paper from here on. Her label isn't used again.
+    /// A reviewer no longer reviews a paper. Their label isn't used again.
     Unassigned {
         /// The paper.
         paper: PaperNo,
-        /// Who reviewed it.
+        /// The user who reviewed it.
         user: UserNo,
-        /// The ordinal of the label under which she did.
+        /// The ordinal of the reviewer's label.
         ordinal: Ordinal,
     },
-    /// A reviewer has written a form of her review of a paper. All forms count, each by when it was written.
+    /// A reviewer has written a version of their review of a paper. All versions count, each by when it was written.
     Reviewed {
         /// The paper.
         paper: PaperNo,
-        /// The ordinal of the label under which she reviews it.
+        /// The ordinal of the label under which the user reviews it.
         ordinal: Ordinal,
         /// The form's number: the count of the label's forms before it plus 1.
         version: u64,
-        /// What she wrote.
+        /// The version of the review.
         form: Form,
     },
     /// A member has commented on a paper.
@@ -138,18 +137,18 @@ pub enum Entry {
         paper: PaperNo,
         /// The comment's number: the count of comments on the paper before it plus 1.
         n: u64,
-        /// The ordinal of the label under which she reviews the paper; none where she doesn't.
+        /// The ordinal of the label under which the user reviews the paper; `None` if they don't.
         ordinal: Option<Ordinal>,
-        /// What she wrote: UTF-8, 1 to 10,000 bytes.
+        /// The comment: UTF-8, 1 to 10,000 bytes.
         text: Text,
     },
-    /// A tag is on or off at a paper from here on; a private one for its maker alone.
+    /// A tag is on or off at a paper from here on; a private one only for the user who set it.
     Tagged {
         /// The paper.
         paper: PaperNo,
         /// The tag.
         tag: Tag,
-        /// Whether it is on.
+        /// True if it is on.
         on: bool,
     },
     /// The committee has decided on a paper. The last decision counts.
@@ -163,19 +162,19 @@ pub enum Entry {
     DeadlineSet {
         /// The phase: submission, bidding, reviewing, response or discussion.
         phase: Phase,
-        /// Until when what the phase opens may be done; None where it has no deadline any more.
+        /// Until when what the phase opens may be done; `None` if it has no deadline any more.
         until: Option<Deadline>,
     },
-    /// A user is no member and no chair from here on: she has an account, as before she was named.
+    /// A user is no member and no chair from here on, but has an account, as before their appointment.
     Dismissed {
-        /// Who is dismissed.
+        /// The user dismissed.
         user: UserNo,
     },
-    /// A user who is no member may review a paper from here on, and reads it: she is an external of it.
+    /// A user who is no member may read and review a paper from here on, as an external of it.
     Invited {
         /// The paper.
         paper: PaperNo,
-        /// Who is invited.
+        /// The user invited.
         user: UserNo,
     },
     /// A user's invitation to a paper is taken back from here on.
@@ -246,21 +245,21 @@ pub enum EntryKind {
 /// What a command's entries have alike, beside what each says: who gave it, when, and by which number.
 #[derive(Clone, Copy, PartialEq, Eq)]
 pub struct Stamp {
-    /// Who gave the command; of a registration the new user.
+    /// The user who gave the command; of a registration the new user.
     pub maker: UserNo,
-    /// The moment of the command's request.
+    /// The timestamp of the command's request.
     pub at: Moment,
-    /// The number that its client gave the command, with the mark of its request; None where it gave none, as of every
+    /// The number that its client gave the command, with the mark of its request; `None` if it gave none, as of every
     /// registration.
     pub key: Option<RetryKey>,
 }
 
-/// An entry with the stamp of its command, and whether another entry of the same command follows.
+/// An entry with the metadata of its command.
 #[derive(Drop)]
 pub struct Stamped {
-    /// The stamp of its command.
+    /// The metadata of its command.
     pub stamp: Stamp,
-    /// Whether another entry of the same command follows.
+    /// True if another entry of the same command follows.
     pub more: bool,
     /// The entry.
     pub entry: Entry,
@@ -269,16 +268,16 @@ pub struct Stamped {
 /// What is kept of a registered user.
 #[derive(Clone, Copy)]
 pub struct Account {
-    /// Her name.
+    /// The user's name.
     pub name: Short,
-    /// The digest of her secret.
+    /// The digest of the user's secret.
     pub digest: Digest,
-    /// What she is to the committee.
+    /// The user's role.
     pub role: Role,
 }
 
 impl Entry {
-    /// Its kind.
+    /// Returns its kind.
     pub fn kind(&self) -> EntryKind
         ensures { result ≡ kind_of self.now }
     {
@@ -308,7 +307,11 @@ impl Entry {
         }
     }
 
-    /// An equal one, which shares its texts; an error only for lack of memory.
+    /// Returns an equal one, which shares its texts.
+    ///
+    /// # Errors
+    ///
+    /// If memory runs out.
     pub fn copy(&self) -> Result<Entry, AllocError>
         ensures { IfOk result (λ entry. entry ≡ self.now) }
     {
@@ -444,7 +447,11 @@ impl Entry {
 }
 
 impl Stamped {
-    /// An equal one, which shares its texts; an error only for lack of memory.
+    /// Returns an equal one, which shares its texts.
+    ///
+    /// # Errors
+    ///
+    /// If memory runs out.
     pub fn copy(&self) -> Result<Stamped, AllocError>
         ensures { IfOk result (λ stamped. stamped ≡ self.now) }
     {

@@ -14,12 +14,16 @@ pub struct Form {
     pub confidence: Grade,
     /// What the paper's authors may read of it: UTF-8, at most 20,000 bytes.
     pub to_authors: Text,
-    /// What the committee alone reads: UTF-8, at most 20,000 bytes.
+    /// The text that only the committee reads: UTF-8, at most 20,000 bytes.
     pub to_pc: Text,
 }
 
 impl Form {
-    /// An equal one, which shares its texts; an error only for lack of memory.
+    /// Returns an equal one, which shares its texts.
+    ///
+    /// # Errors
+    ///
+    /// If memory runs out.
     pub fn copy(&self) -> Result<Form, AllocError>
         ensures { IfOk result (λ form. form ≡ self.now) }
     {

@@ -3,7 +3,11 @@ ghost use Rattle.std.specs.Prelude.{◌≡◌};
 
 use std::marker::Model;
 
-/// Values in an order that their place says. Contracts see the list.
+/// Values in an order that their place says.
+///
+/// # Model
+///
+/// The list.
 #[derive(Drop)]
 pub struct Items<T> {
     items: Vec<T>,
@@ -18,14 +22,18 @@ impl<T> Model for Items<T> {
 }
 
 impl<T> Items<T> {
-    /// The values of a vector; takes no memory.
+    /// Returns the values of a vector.
+    ///
+    /// # Cost
+    ///
+    /// Takes no memory.
     pub fn from_vec(items: Vec<T>) -> Items<T>
         ensures { result ≡ items.items }
     {
         Items { items }
     }
 
-    /// The values.
+    /// Returns the values.
     pub fn as_slice(&self) -> &[T]
         ensures { result.now ≡ self.now }
     {

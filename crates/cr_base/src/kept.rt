@@ -9,7 +9,11 @@ use crate::texts::Text;
 use std::marker::Model;
 use std::sync::ledger::Ledger;
 
-/// A stored record, which is read by calls that tick alone. Contracts see the record.
+/// A stored record, which only calls that tick can read.
+///
+/// # Model
+///
+/// The record.
 #[derive(Drop)]
 pub struct Kept<V> {
     value: V,
@@ -22,14 +26,18 @@ impl<V> Model for Kept<V> {
 }
 
 impl<V: Drop> Kept<V> {
-    /// The record, to be stored.
+    /// Returns the record, to be stored.
     pub fn new(value: V) -> Kept<V>
         ensures { result ≡ value }
     {
         Kept { value }
     }
 
-    /// The record, to be read. One step.
+    /// Returns the record, to be read.
+    ///
+    /// # Cost
+    ///
+    /// One step.
     pub fn get<L: Ledger>(&self, steps: &mut Steps<L>) -> &V
         ensures value { result.now ≡ self.now }
         ensures steps { Takes 1 steps.old steps.new }
@@ -38,7 +46,7 @@ impl<V: Drop> Kept<V> {
         &self.value
     }
 
-    /// The record, to be written over: what it was can be read no other way than by `get`.
+    /// Sets the record. Its old value can be read only by `get`.
     pub fn set(&mut self, value: V)
         ensures { self.new ≡ value }
     {
@@ -47,7 +55,11 @@ impl<V: Drop> Kept<V> {
 }
 
 impl Kept<Paper> {
-    /// Other texts, in the place of those that it had. Nothing is read.
+    /// Gives the paper other texts.
+    ///
+    /// # Cost
+    ///
+    /// Nothing is read.
     pub fn revise(&mut self, title: Text, abstract_: Text)
         ensures { self.new ≡ with_texts title abstract_ self.old }
     {
@@ -55,7 +67,11 @@ impl Kept<Paper> {
         self.value.abstract_ = abstract_;
     }
 
-    /// It is withdrawn from now on. Nothing is read.
+    /// Withdraws the paper.
+    ///
+    /// # Cost
+    ///
+    /// Nothing is read.
     pub fn withdraw(&mut self)
         ensures { self.new ≡ as_withdrawn self.old }
     {

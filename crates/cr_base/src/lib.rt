@@ -1,5 +1,31 @@
-//! What every crate of the server speaks of: entries and their rows, commands, queries, rules and
-//! replies. The definitions over histories and tables stand in this crate's specs.
+//! What every crate of the server speaks of: entries and their rows, commands, queries, rules and replies. Its specs
+//! define histories, tables, rules and answers.
+//!
+//! # Proved
+//!
+//! - A row of an older store is brought to the current version: `migrate_row`.
+//! - A name is tested exactly by its grammar: `is_name` (`name`, `test`).
+//! - Phases, modes, roles and decisions print as their words: `name`, `value`.
+//! - A `UserNo` and a `PaperNo` are 1 to 9,999, a `Moment` 0 to 253,402,300,799, a `Deadline` 1 to 253,402,207,200:
+//!   the types.
+//! - Each command and query says what it asks for, and by that whether authentication is required and credentials are
+//!   read: `Command::ask`, `Query::ask`, `wants_login`, `Ask::reads_credentials`.
+//! - Co-authors in a fixed array are the list of those pushed: `Coauthors::push`.
+//! - Decimal digits are read as their number: `decimal_value`.
+//! - Reading a record in a `Kept` takes one step; a caller sees as many steps as are ticked: `get` (`steps`),
+//!   `Steps::ticks`.
+//!
+//! Unless memory runs out:
+//!
+//! - A row is read as the entry within bounds that has this row. It is refused if there is none: `Stamped::from_row`
+//!   (`spells`, `every`).
+//! - An entry is written as its row: `Entry::to_row`.
+//! - Copies are equal: `copy` of `Blob`, `Text`, `Row`, `Entry`, `Stamped`.
+//!
+//! # Assumed
+//!
+//! - Copies share their bytes, by the crate `bytes`.
+//! - The definitions say what is meant. Counted code reads nothing uncounted.
 #![tactic(auto)]
 
 mod accepted;

@@ -8,25 +8,25 @@ use crate::words::Role;
 /// Papers by number.
 pub type PaperNos = Items<PaperNo>;
 
-/// What a user is told of herself.
+/// What a user is told about themselves.
 #[derive(Drop)]
 pub struct Me {
-    /// The papers that she reviews.
+    /// The papers that the user reviews.
     pub assigned: PaperNos,
-    /// How many bytes she has uploaded, in all versions of all papers: 0 to 67,108,864.
+    /// How many bytes the user has uploaded, in all versions of all papers: 0 to 67,108,864.
     pub bytes: u64,
-    /// How many comments she has written: 0 to 1,000.
+    /// How many comments the user has written: 0 to 1,000.
     pub comments: u64,
-    /// The papers with which she is in conflict and whose author she isn't.
+    /// The papers with which the user is in conflict without being an author.
     pub conflicts: PaperNos,
-    /// The papers of which she is an external.
+    /// The papers of which the user is an external.
     pub invited: PaperNos,
-    /// Her name.
+    /// The user's name.
     pub name: Short,
-    /// The papers whose author she is.
+    /// The papers of which the user is an author.
     pub papers: PaperNos,
-    /// Her role.
+    /// The user's role.
     pub role: Role,
-    /// Her number.
+    /// The user's number.
     pub user: UserNo,
 }

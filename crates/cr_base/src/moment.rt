@@ -10,7 +10,9 @@ pub(crate) const LAST_MOMENT: u64 = 253_402_300_799;
 /// A moment: whole seconds since 1970-01-01T00:00:00Z, no leap second counted (POSIX.1-2017, section 4.16), from 0 to
 /// 253,402,300,799, which is 9999-12-31T23:59:59Z.
 ///
-/// Contracts see the seconds.
+/// # Model
+///
+/// The seconds.
 #[derive(Clone, Copy, PartialEq, Eq)]
 pub struct Moment {
     seconds: u64,
@@ -27,14 +29,14 @@ impl Model for Moment {
 }
 
 impl Moment {
-    /// The first one: 1970-01-01T00:00:00Z.
+    /// Returns the first one: 1970-01-01T00:00:00Z.
     pub fn epoch() -> Moment
         ensures { result ≡ 0 }
     {
         Moment { seconds: 0 }
     }
 
-    /// The moment of so many seconds since 1970-01-01T00:00:00Z; None past 253,402,300,799.
+    /// Returns the moment of so many seconds since 1970-01-01T00:00:00Z; None past 253,402,300,799.
     pub fn new(seconds: u64) -> Option<Moment>
         ensures { result ≡ moment_of seconds }
     {
@@ -44,7 +46,7 @@ impl Moment {
         Some(Moment { seconds })
     }
 
-    /// Its seconds since 1970-01-01T00:00:00Z.
+    /// Returns its seconds since 1970-01-01T00:00:00Z.
     pub fn seconds(self) -> u64
         ensures value { result ≡ self }
         ensures high { IsMoment result }

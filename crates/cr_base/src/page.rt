@@ -16,7 +16,7 @@ pub type Versions = Items<u64>;
 /// Bids on a paper, by user number.
 pub type Bids = Items<Bidder>;
 
-/// Who reviews a paper, by label.
+/// A paper's reviewers, by label.
 pub type Reviewers = Items<Reviewer>;
 
 /// Tags on a paper, by their bytes.
@@ -25,22 +25,22 @@ pub type TagList = Items<Tag>;
 /// A bid on a paper, and whose it is.
 #[derive(Clone, Copy)]
 pub struct Bidder {
-    /// Her last bid.
+    /// The user's last bid.
     pub bid: Bid,
-    /// Her name.
+    /// The user's name.
     pub user: Short,
 }
 
-/// A reviewer of a paper: each but her label is there only where the caller may be told it.
+/// A reviewer of a paper: each field except the label is there only if the caller may be told it.
 #[derive(Clone, Copy)]
 pub struct Reviewer {
-    /// Whether she has written a review.
+    /// True if the reviewer has written a review.
     pub done: Option<bool>,
-    /// What she is to the paper.
+    /// The kind of assignment.
     pub kind: Option<Kind>,
-    /// The ordinal of her label.
+    /// The ordinal of the reviewer's label.
     pub label: Ordinal,
-    /// Her name.
+    /// The reviewer's name.
     pub user: Option<Short>,
 }
 
@@ -53,28 +53,28 @@ pub struct Page {
     pub abstract_: Option<Text>,
     /// Its authors, the submitter first.
     pub authors: Option<Names>,
-    /// The caller's own last bid; 0 where she has told none.
+    /// The caller's own last bid; 0 if there is none.
     pub bid: Option<Bid>,
     /// The last bids on it, by user number.
     pub bids: Option<Bids>,
-    /// Whether the caller is in conflict with it.
+    /// True if the caller is in conflict with it.
     pub conflict: Option<bool>,
-    /// Who is declared in conflict with it, by user number.
+    /// The users declared in conflict with it, by user number.
     pub conflicts: Option<Names>,
     /// What was decided of it last; None within where nothing was.
     pub decision: Option<Option<Decision>>,
-    /// Whom the authors declared in conflict with it, by user number.
+    /// The users that the authors declared in conflict with it, by user number.
     pub declared: Option<Names>,
     /// The ordinal of the label under which the caller reviews it.
     pub label: Option<Ordinal>,
-    /// Who reviews it, by label.
+    /// Its reviewers, by label.
     pub reviewers: Option<Reviewers>,
     /// The tags that are on and for the caller, by their bytes.
     pub tags: Option<TagList>,
     /// Its title.
     pub title: Option<Text>,
-    /// The numbers of its versions: all for its authors, the last alone for others.
+    /// The numbers of its versions: all for its authors, only the last for others.
     pub versions: Option<Versions>,
-    /// Whether it was withdrawn.
+    /// True if it was withdrawn.
     pub withdrawn: Option<bool>,
 }

@@ -16,13 +16,13 @@ pub struct Pair {
 /// A paper and a user who are tied, and what is kept of the two: `()` where nothing is but that.
 #[derive(Clone, Copy)]
 pub struct Tie<V> {
-    /// Who is tied to what.
+    /// The paper and the user.
     pub pair: Pair,
     /// What is kept of the two.
     pub value: V,
 }
 
-/// In which order pairs stand, and so by which of their numbers they are found.
+/// The order of pairs, and so the number by which they are found.
 #[derive(Clone, Copy, PartialEq, Eq)]
 pub enum Order {
     /// By the paper, and those of one paper by the user.
@@ -32,7 +32,7 @@ pub enum Order {
 }
 
 impl Pair {
-    /// The number by which the pair is found in this order, 1 to 9,999.
+    /// Returns the number by which the pair is found in this order, 1 to 9,999.
     pub fn major(&self, order: Order) -> u64
         ensures value { result ≡ major order self.now }
         ensures few { result ≤ 9999 }
@@ -43,7 +43,7 @@ impl Pair {
         }
     }
 
-    /// The number by which those that have the same first one are ordered, 1 to 9,999.
+    /// Returns the number that orders those with the same first one, 1 to 9,999.
     pub fn minor(&self, order: Order) -> u64
         ensures { result ≡ minor order self.now }
     {

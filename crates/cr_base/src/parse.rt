@@ -6,22 +6,26 @@ use crate::digits::{all_digits, decimal_value};
 use crate::numbers::PaperNo;
 use crate::texts::{Short, is_name};
 
-/// Whether a text has from one to four bytes.
+/// Returns whether a text has from one to four bytes.
 fn is_short(text: &[u8]) -> bool
     ensures { result ≡ spec.is_short text.now }
 {
     1 <= text.len() && text.len() <= 4
 }
 
-/// Whether a text is a number from 1 to 9,999 in decimal.
+/// Returns whether a text is a number from 1 to 9,999 in decimal.
 fn is_paper_number(text: &[u8]) -> bool
     ensures { result ≡ spec.is_paper_number text.now }
 {
     is_short(text) && text[0] != b'0' && all_digits(text)
 }
 
-/// The paper of a text: Some exactly where it is a number from 1 to 9,999 in decimal, without a sign and without a
-/// zero in front. Looks at four bytes at most; takes no memory.
+/// Returns the paper of a text: Some exactly if it is a number from 1 to 9,999 in decimal, without a sign and without
+/// a zero in front.
+///
+/// # Cost
+///
+/// Looks at four bytes at most. Takes no memory.
 pub fn parse_paper(text: &[u8]) -> Option<PaperNo>
     ensures { result ≡ spec.parse_paper text.now }
 {
@@ -32,8 +36,11 @@ pub fn parse_paper(text: &[u8]) -> Option<PaperNo>
     }
 }
 
-/// The name that a text is: 1 to 32 of `a-z0-9-`. None where it is no name. One walk over at
-/// most 32 bytes; takes no memory.
+/// Returns the name that a text is: 1 to 32 of `a-z0-9-`. `None` if it is no name.
+///
+/// # Cost
+///
+/// One walk over at most 32 bytes. Takes no memory.
 pub fn parse_name(text: &[u8]) -> Option<Short>
     ensures { result ≡ spec.parse_name text.now }
 {

@@ -19,7 +19,7 @@ use crate::words::Phase;
 
 /// The order.
 impl Phase {
-    /// Its rank in the order of phases, from 0.
+    /// Returns its rank in the order of phases, from 0.
     fn rank(self) -> u64
         ensures value { result ≡ phase_rank self }
         ensures low { result ≤ 7 }
@@ -36,29 +36,29 @@ impl Phase {
         }
     }
 
-    /// Whether this is the phase told.
+    /// Returns whether this is the phase told.
     pub fn is(self, phase: Phase) -> bool
         ensures { result ≡ is_phase self phase }
     {
         self.rank() == phase.rank()
     }
 
-    /// Whether this is the first phase told, or a later one.
+    /// Returns whether this is the first phase told, or a later one.
     pub fn is_from(self, first: Phase) -> bool
         ensures { result ≡ is_from first self }
     {
         first.rank() <= self.rank()
     }
 
-    /// Whether the phase told may follow this one: it is the next in the order, or the discussion where this is the
-    /// reviewing, so that the response between them is skipped.
+    /// Returns whether the phase told may follow this one: it is the next in the order, or the discussion where this
+    /// is the reviewing, so that the response between them is skipped.
     pub fn is_before(self, next: Phase) -> bool
         ensures { result ≡ is_next self next }
     {
         next.rank() == self.rank() + 1 || self.skips_response(next)
     }
 
-    /// Whether the response is skipped where the phase told follows this one.
+    /// Returns whether the response is skipped where the phase told follows this one.
     fn skips_response(self, next: Phase) -> bool
         ensures { result ≡ skips_response self next }
     {
@@ -68,92 +68,92 @@ impl Phase {
 
 /// What is done.
 impl Phase {
-    /// Whether chairs may set a deadline of it: one until which what it opens may be done.
+    /// Returns whether chairs may set a deadline of it: one until which what it opens may be done.
     pub fn may_have_deadline(self) -> bool
         ensures { result ≡ may_have_deadline self }
     {
         self.is_from(Phase::Submission) && !self.is_from(Phase::Notification)
     }
 
-    /// Whether chairs may choose who sees whose names.
+    /// Returns whether chairs may choose who sees whose names.
     pub fn mode_may_be_set(self) -> bool
         ensures { result ≡ mode_may_be_set self }
     {
         self.is(Phase::Setup)
     }
 
-    /// Whether papers are submitted.
+    /// Returns whether papers are submitted.
     pub fn accepts_submissions(self) -> bool
         ensures { result ≡ accepts_submissions self }
     {
         self.is(Phase::Submission)
     }
 
-    /// Whether authors revise their papers, upload to them and withdraw them.
+    /// Returns whether authors revise their papers, upload to them and withdraw them.
     pub fn papers_may_change(self) -> bool
         ensures { result ≡ papers_may_change self }
     {
         self.is(Phase::Submission)
     }
 
-    /// Whether authors declare conflicts no more: the committee does.
+    /// Returns whether authors declare conflicts no more: the committee does.
     pub fn authors_have_declared(self) -> bool
         ensures { result ≡ authors_have_declared self }
     {
         self.is_from(Phase::Bidding)
     }
 
-    /// Whether nobody turns a conflict on or off any more.
+    /// Returns whether no user turns a conflict on or off any more.
     pub fn conflicts_are_final(self) -> bool
         ensures { result ≡ conflicts_are_final self }
     {
         self.is_from(Phase::Notification)
     }
 
-    /// Whether nobody is named a member or a chair, or dismissed, any more.
+    /// Returns whether no user is appointed or dismissed any more.
     pub fn roles_are_final(self) -> bool
         ensures { result ≡ roles_are_final self }
     {
         self.is_from(Phase::Notification)
     }
 
-    /// Whether the committee works on the papers: chairs take conflicts back, assign and unassign reviewers, invite
-    /// externals and take that back, and send bulks; and members tag.
+    /// Returns whether the committee works on the papers: chairs take conflicts back, assign and unassign reviewers,
+    /// invite externals and take that back, and send bulks; and members tag.
     pub fn committee_works(self) -> bool
         ensures { result ≡ committee_works self }
     {
         self.is_from(Phase::Bidding) && !self.is_from(Phase::Notification)
     }
 
-    /// Whether members bid for papers.
+    /// Returns whether members bid for papers.
     pub fn bids_are_taken(self) -> bool
         ensures { result ≡ bids_are_taken self }
     {
         self.is(Phase::Bidding)
     }
 
-    /// Whether reviewers write their forms.
+    /// Returns whether reviewers write their forms.
     pub fn reviews_are_written(self) -> bool
         ensures { result ≡ reviews_are_written self }
     {
         self.is(Phase::Reviewing) || self.is(Phase::Discussion)
     }
 
-    /// Whether authors respond to the reviews of their papers.
+    /// Returns whether authors respond to the reviews of their papers.
     pub fn responses_are_written(self) -> bool
         ensures { result ≡ responses_are_written self }
     {
         self.is(Phase::Response)
     }
 
-    /// Whether members comment on papers.
+    /// Returns whether members comment on papers.
     pub fn comments_are_written(self) -> bool
         ensures { result ≡ comments_are_written self }
     {
         self.is(Phase::Discussion)
     }
 
-    /// Whether chairs decide what becomes of papers.
+    /// Returns whether chairs decide what becomes of papers.
     pub fn decisions_are_made(self) -> bool
         ensures { result ≡ decisions_are_made self }
     {
@@ -163,99 +163,99 @@ impl Phase {
 
 /// What the committee sees.
 impl Phase {
-    /// Whether members and externals see the papers: titles and what is withdrawn, and without a conflict abstracts
-    /// and contents; externals nothing of those that they are in conflict with.
+    /// Returns whether members and externals see the papers: titles and what is withdrawn, and without a conflict
+    /// abstracts and contents; externals nothing of those that they are in conflict with.
     pub fn members_see_papers(self) -> bool
         ensures { result ≡ members_see_papers self }
     {
         self.is_from(Phase::Bidding)
     }
 
-    /// Whether chairs, and members and externals where the mode lets them, see who wrote a paper.
+    /// Returns whether chairs, and members and externals where the mode lets them, see who wrote a paper.
     pub fn committee_sees_authors(self) -> bool
         ensures { result ≡ committee_sees_authors self }
     {
         self.is_from(Phase::Bidding)
     }
 
-    /// Whether chairs see who is in conflict with a paper.
+    /// Returns whether chairs see who is in conflict with a paper.
     pub fn chairs_see_conflicts(self) -> bool
         ensures { result ≡ chairs_see_conflicts self }
     {
         self.is_from(Phase::Bidding)
     }
 
-    /// Whether a member sees what she bid.
+    /// Returns whether a member sees their own bid.
     pub fn members_see_own_bids(self) -> bool
         ensures { result ≡ members_see_own_bids self }
     {
         self.is_from(Phase::Bidding)
     }
 
-    /// Whether chairs see what everyone bid.
+    /// Returns whether chairs see what everyone bid.
     pub fn chairs_see_bids(self) -> bool
         ensures { result ≡ chairs_see_bids self }
     {
         self.is_from(Phase::Bidding)
     }
 
-    /// Whether members see tags, and chairs those for chairs.
+    /// Returns whether members see tags, and chairs those for chairs.
     pub fn committee_sees_tags(self) -> bool
         ensures { result ≡ committee_sees_tags self }
     {
         self.is_from(Phase::Bidding)
     }
 
-    /// Whether chairs see who reviews a paper, and how much each member has to review.
+    /// Returns whether chairs see who reviews a paper, and how much each member has to review.
     pub fn chairs_see_reviewers(self) -> bool
         ensures { result ≡ chairs_see_reviewers self }
     {
         self.is_from(Phase::Bidding)
     }
 
-    /// Whether members see who else reviews a paper, by their names where the mode lets them.
+    /// Returns whether members see who else reviews a paper, by their names where the mode lets them.
     pub fn members_see_reviewers(self) -> bool
         ensures { result ≡ members_see_reviewers self }
     {
         self.is_from(Phase::Discussion)
     }
 
-    /// Whether a reviewer reads her own forms, and nobody else's yet.
+    /// Returns whether a reviewer reads their own forms, and no other's yet.
     pub fn reviewers_read_own(self) -> bool
         ensures { result ≡ reviewers_read_own self }
     {
         self.is_from(Phase::Reviewing) && !self.is_from(Phase::Discussion)
     }
 
-    /// Whether an external who reviews a paper reads her own forms, and never another's.
+    /// Returns whether an external who reviews a paper reads their own forms, and never another's.
     pub fn externals_read_own(self) -> bool
         ensures { result ≡ externals_read_own self }
     {
         self.is_from(Phase::Reviewing)
     }
 
-    /// Whether members read each other's reviews.
+    /// Returns whether members read each other's reviews.
     pub fn members_read_reviews(self) -> bool
         ensures { result ≡ members_read_reviews self }
     {
         self.is_from(Phase::Discussion)
     }
 
-    /// Whether members read comments.
+    /// Returns whether members read comments.
     pub fn members_read_comments(self) -> bool
         ensures { result ≡ members_read_comments self }
     {
         self.is_from(Phase::Discussion)
     }
 
-    /// Whether members read what authors responded.
+    /// Returns whether members read what authors responded.
     pub fn members_read_responses(self) -> bool
         ensures { result ≡ members_read_responses self }
     {
         self.is_from(Phase::Discussion)
     }
 
-    /// Whether members read what was decided.
+    /// Returns whether members read what was decided.
     pub fn members_read_decisions(self) -> bool
         ensures { result ≡ members_read_decisions self }
     {
@@ -265,56 +265,58 @@ impl Phase {
 
 /// What authors and everyone are told.
 impl Phase {
-    /// Whether authors read of each label the last form that was written before the response, to which they respond.
+    /// Returns whether authors read of each label the last form that was written before the response, to which they
+    /// respond.
     pub fn authors_read_early_reviews(self) -> bool
         ensures { result ≡ authors_read_early_reviews self }
     {
         self.is_from(Phase::Response)
     }
 
-    /// Whether authors read the reviews of their papers as they are in the end.
+    /// Returns whether authors read the final reviews of their papers.
     pub fn authors_read_reviews(self) -> bool
         ensures { result ≡ authors_read_reviews self }
     {
         self.is_from(Phase::Notification)
     }
 
-    /// Whether authors see who reviewed their papers, where the mode lets them.
+    /// Returns whether authors see who reviewed their papers, if the mode lets them.
     pub fn authors_see_reviewers(self) -> bool
         ensures { result ≡ authors_see_reviewers self }
     {
         self.is_from(Phase::Notification)
     }
 
-    /// Whether authors read what was decided of their papers.
+    /// Returns whether authors read what was decided of their papers.
     pub fn authors_read_decisions(self) -> bool
         ensures { result ≡ authors_read_decisions self }
     {
         self.is_from(Phase::Notification)
     }
 
-    /// Whether the letters to the authors may be had.
+    /// Returns whether the letters to the authors may be had.
     pub fn letters_are_sent(self) -> bool
         ensures { result ≡ letters_are_sent self }
     {
         self.is_from(Phase::Notification)
     }
 
-    /// Whether a decision to accept counts before everyone.
+    /// Returns whether a decision to accept counts before everyone.
     pub fn papers_may_be_accepted(self) -> bool
         ensures { result ≡ papers_may_be_accepted self }
     {
         self.is_from(Phase::Notification)
     }
 
-    /// Whether everyone is served what is accepted.
+    /// Returns whether everyone is served what is accepted.
     pub fn papers_are_published(self) -> bool
         ensures { result ≡ papers_are_published self }
     {
         self.is_from(Phase::Closed)
     }
 
-    /// Whether everyone is served a paper, which is accepted or isn't: where it is, once the conference is closed.
+    /// Returns whether everyone is served a paper, which is accepted or isn't: where it is, once the conference is
+    /// closed.
     pub fn publishes(self, accepted: bool) -> bool
         ensures { result ≡ is_published self accepted }
     {

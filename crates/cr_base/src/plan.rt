@@ -25,7 +25,7 @@ impl Model for PerPaper {
 }
 
 impl PerPaper {
-    /// So many, from 1 to 26.
+    /// Returns this number of members, from 1 to 26.
     pub fn new(number: u64) -> PerPaper
         requires low { 1 ≤ number }
         requires high { number ≤ 26 }
@@ -36,7 +36,7 @@ impl PerPaper {
         }
     }
 
-    /// The number, from 1 to 26.
+    /// Returns the number, from 1 to 26.
     pub fn number(self) -> u64
         ensures value { result ≡ self }
         ensures low { 1 ≤ result }
@@ -65,7 +65,7 @@ impl Model for PlanLoad {
 }
 
 impl PlanLoad {
-    /// So many, from 1 to 512.
+    /// Returns this number of papers, from 1 to 512.
     pub fn new(number: u64) -> PlanLoad
         requires low { 1 ≤ number }
         requires high { number ≤ 512 }
@@ -76,7 +76,7 @@ impl PlanLoad {
         }
     }
 
-    /// The number, from 1 to 512.
+    /// Returns the number, from 1 to 512.
     pub fn number(self) -> u64
         ensures value { result ≡ self }
         ensures low { 1 ≤ result }

@@ -26,7 +26,7 @@ pub enum Rule {
     NotChair,
     /// The phase is another than the one that is wanted; or the one whose deadline is to be set is over.
     WrongPhase,
-    /// The phase has a deadline, and the moment of the request is later.
+    /// The phase has a deadline, and the request's timestamp is later.
     Late,
     /// The user has that role, or a greater one.
     AlreadyNamed,
@@ -38,12 +38,13 @@ pub enum Rule {
     NoPaper,
     /// The caller is no author of the paper.
     NotAuthor,
-    /// The user named is no member of the committee; nor, where she is to review a paper, or a chair declares her in
-    /// conflict with it or takes that back, an external of the paper.
+    /// The user named is no member of the committee. If they are to review a paper, or a chair changes their conflict
+    /// with it, an external of the paper will do as well.
     NotAMember,
-    /// The caller is no member of the committee, and bids, declares a conflict of her own, comments, tags, or asks for
-    /// comments or a report; or nor an author of the paper, and asks for its response; or nor an external of it, and
-    /// reviews it; or none of all these, and asks for its reviews, or for its page or content, unless all may read it.
+    /// The caller is no member of the committee, and bids, declares a conflict of their own, comments, tags, or asks
+    /// for comments or a report; or nor an author of the paper, and asks for its response; or nor an external of it,
+    /// and reviews it; or none of all these, and asks for its reviews, or for its page or content, unless all may read
+    /// it.
     NotMember,
     /// The caller is in conflict with the paper.
     Conflict,
@@ -63,7 +64,7 @@ pub enum Rule {
     LabelsSpent,
     /// The user named doesn't review the paper.
     NotAssigned,
-    /// The user named has written a review under her label, and so can't be taken off the paper.
+    /// The user named has written a review under their label, and so can't be unassigned.
     HasReview,
     /// The caller doesn't review the paper.
     NotReviewer,
@@ -79,7 +80,7 @@ pub enum Rule {
     NumberUsed,
     /// A plan is asked for with more than 512 places, or of papers and members whose product passes 4,096.
     PlanTooLarge,
-    /// There is no plan as it is asked for.
+    /// There is no plan with these numbers.
     NoPlan,
     /// The user named is the only chair, and stays one.
     LastChair,
@@ -115,9 +116,9 @@ pub enum Receipt {
         /// Its number.
         paper: PaperNo,
     },
-    /// A user has this role now; an account's where she was dismissed.
+    /// A user has this role now; an account's if they were dismissed.
     Named {
-        /// Her name.
+        /// The user's name.
         name: Short,
         /// The role.
         role: Role,
@@ -163,7 +164,7 @@ pub enum Receipt {
     Deadline {
         /// The phase.
         phase: Phase,
-        /// Its deadline; None where it has none any more.
+        /// Its deadline; `None` if it has none any more.
         until: Option<Deadline>,
     },
 }
@@ -173,9 +174,9 @@ pub enum Receipt {
 pub struct AccountLine {
     /// The user's number.
     pub user: UserNo,
-    /// Her name.
+    /// The user's name.
     pub name: Short,
-    /// Her role.
+    /// The user's role.
     pub role: Role,
 }
 
@@ -229,7 +230,7 @@ pub enum Reply {
     Response(Text),
     /// The answer to `Query::Search`: the papers that it finds.
     Found(FoundPapers),
-    /// The answer to `Query::Search` where their number alone is asked for.
+    /// The answer to `Query::Search` if only their number was asked for.
     Count(u64),
     /// The answer to `Query::Report` and to `Query::Plan`: its text, in UTF-8.
     Report(Blob),

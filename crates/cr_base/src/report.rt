@@ -18,13 +18,13 @@ pub enum Report {
     Decisions,
     /// The decision on a paper with its reviews: for its authors, from the notification on.
     Letter {
-        /// The paper told; None where what was told is no number of a paper.
+        /// The paper; `None` if the request names no valid paper number.
         paper: Option<PaperNo>,
     },
 }
 
 impl Report {
-    /// The request by which it is asked.
+    /// Returns the request by which it is asked.
     pub fn ask(&self) -> Ask
         ensures { result ≡ report_ask self.now }
     {

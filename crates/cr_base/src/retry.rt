@@ -8,7 +8,9 @@ pub const LAST_COMMAND_NUMBER: u64 = 999_999_999_999_999_999;
 /// The number that a client gives a command, from 1 to 999,999,999,999,999,999, so that the command acts once however
 /// often it is sent.
 ///
-/// Contracts see the number.
+/// # Model
+///
+/// The number.
 #[derive(Clone, Copy, PartialEq, Eq)]
 pub struct CommandNumber {
     number: u64,
@@ -30,7 +32,7 @@ impl CommandNumber {
     ghost use Rattle.std.specs.Prelude.{◌≡◌, ◌≤◌};
     ghost use Rattle.cr_base.specs.Keys.{command_number_of};
 
-    /// That number; None for 0 and past 999,999,999,999,999,999.
+    /// Returns that number; `None` for 0 and past 999,999,999,999,999,999.
     pub fn new(number: u64) -> Option<CommandNumber>
         ensures { result ≡ command_number_of number }
     {
@@ -40,7 +42,7 @@ impl CommandNumber {
         Some(CommandNumber { number })
     }
 
-    /// The number, from 1 to 999,999,999,999,999,999.
+    /// Returns the number, from 1 to 999,999,999,999,999,999.
     pub fn number(self) -> u64
         ensures value { result ≡ self }
         ensures low { 1 ≤ result }
@@ -50,8 +52,8 @@ impl CommandNumber {
     }
 }
 
-/// What tells that a request repeats an earlier one of the same user: the number that the client gave its command, and
-/// the mark of the request, which is that of every request of the same method, path and body.
+/// What tells that a request repeats an earlier one of the same user: the idempotency number that the client gave its
+/// command, and the digest of the request, which covers method, path and body.
 #[derive(Clone, Copy, PartialEq, Eq)]
 pub struct RetryKey {
     /// The command's number.

@@ -22,7 +22,7 @@ pub struct WrittenForm {
 }
 
 impl WrittenForm {
-    /// Whether it was written under the label of this ordinal.
+    /// Returns whether it was written under the label of this ordinal.
     pub fn is_under(&self, ordinal: Ordinal) -> bool
         ensures { result ≡ (self.now.ordinal == ordinal) }
     {
@@ -30,20 +30,20 @@ impl WrittenForm {
     }
 }
 
-/// A review as it is told: each of its last three parts is there only where the caller may be told it.
+/// A review as an answer has it: each of its last three parts is there only if the caller may be told it.
 #[derive(Drop)]
 pub struct ReviewLine {
     /// How sure the reviewer is.
     pub confidence: Grade,
-    /// The ordinal of her label.
+    /// The ordinal of the reviewer's label.
     pub label: Ordinal,
-    /// How good she finds the paper.
+    /// The reviewer's grade of the paper.
     pub score: Grade,
     /// What the authors may read of it.
     pub to_authors: Text,
-    /// What the committee alone reads.
+    /// The text that only the committee reads.
     pub to_pc: Option<Text>,
-    /// Her name.
+    /// The reviewer's name.
     pub user: Option<Short>,
     /// The number of the form among those of the label, from 1.
     pub version: Option<u64>,

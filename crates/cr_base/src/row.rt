@@ -5,8 +5,8 @@ ghost use Rattle.cr_base.specs.Rows.{migrated};
 use crate::texts::Blob;
 use std::alloc::AllocError;
 
-/// What a keeper keeps of one entry. Any numbers and bytes may stand in it: `Stamped::from_row`
-/// tells which rows are an entry's.
+/// What a keeper keeps of one entry. It may have any numbers and bytes: `Stamped::from_row` says which rows are an
+/// entry's.
 #[derive(Drop, Debug)]
 pub struct Row {
     /// The number of the entry's kind.
@@ -38,7 +38,11 @@ pub struct Row {
 }
 
 impl Row {
-    /// An equal one, which shares its bytes; an error only for lack of memory.
+    /// Returns an equal one, which shares its bytes.
+    ///
+    /// # Errors
+    ///
+    /// If memory runs out.
     pub fn copy(&self) -> Result<Row, AllocError>
         ensures { IfOk result (λ row. row ≡ self.now) }
     {
@@ -59,7 +63,11 @@ impl Row {
         })
     }
 
-    /// Whether all fields of both are the same; at most one look at each byte. Takes no memory.
+    /// Returns whether all fields of both are equal.
+    ///
+    /// # Cost
+    ///
+    /// At most one look at each byte. Takes no memory.
     pub fn is_same(&self, other: &Row) -> bool
         ensures { IsTrue result ↔ (self.now ≡ other.now) }
     {
@@ -82,14 +90,18 @@ impl Row {
 /// A version of stores from before this one, which is 3.
 #[derive(Clone, Copy, PartialEq, Eq)]
 pub enum OldVersion {
-    /// Version 1, which kept no moments of requests.
+    /// Version 1, which kept no timestamps of requests.
     First,
-    /// Version 2, which kept moments of requests and no numbers of commands.
+    /// Version 2, which kept timestamps of requests, and no numbers of commands.
     Second,
 }
 
-/// The row of a store of version 3 that a row of an older one gives: what the older one didn't keep is 0 or empty, and
-/// every other field stays. Takes no memory.
+/// Returns the row of a store of version 3 that a row of an older one gives: what the older one didn't keep is 0 or
+/// empty, and every other field stays.
+///
+/// # Cost
+///
+/// Takes no memory.
 pub fn migrate_row(from: OldVersion, row: Row) -> Row
     ensures { result ≡ migrated from row }
 {

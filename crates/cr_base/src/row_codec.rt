@@ -28,7 +28,7 @@ use crate::words::{Decision, Kind, Mode, Phase, Role};
 use std::alloc::{AllocError, Global};
 
 impl EntryKind {
-    /// The number by which rows tell the kind.
+    /// Returns the number by which rows tell the kind.
     pub fn number(self) -> u64
         ensures { result ≡ kind_number self }
     {
@@ -58,7 +58,7 @@ impl EntryKind {
         }
     }
 
-    /// The kind of that number, and none where no kind has it.
+    /// Returns the kind of that number, or `None` if no kind has it.
     pub fn from_number(number: u64) -> Option<EntryKind>
         ensures some { IfSome result (λ kind. kind_number kind ≡ number) }
         ensures only { IfSome result (λ kind. (other : EntryKind) → kind_number other ≡ number → other ≡ kind) }
@@ -91,7 +91,7 @@ impl EntryKind {
         }
     }
 
-    /// The word for it in the lines of a view.
+    /// Returns the word for it in the lines of a view.
     pub fn name(self) -> &'static str
         ensures { result.now ≡ kind_name self }
     {
@@ -121,7 +121,7 @@ impl EntryKind {
         }
     }
 
-    /// What may stand in its rows.
+    /// Returns what the rows of this kind may have.
     pub(crate) fn shape(self) -> Shape
         ensures { result ≡ shape_of self }
     {
@@ -182,8 +182,11 @@ impl EntryKind {
 }
 
 impl Entry {
-    /// The row of an entry with this stamp, where `more` says whether another entry of the same
-    /// command follows; an error only for lack of memory.
+    /// Returns the row of an entry with this metadata; `more` says whether another entry of the same command follows.
+    ///
+    /// # Errors
+    ///
+    /// If memory runs out.
     pub fn to_row(&self, alloc: Global, stamp: Stamp, more: bool) -> Result<Row, AllocError>
         ensures { IfOk result (λ made. made ≡ row_of (record { stamp = stamp; more = more; entry = self.now })) }
     {
@@ -207,7 +210,7 @@ impl Entry {
         })
     }
 
-    /// The numbers of its row.
+    /// Returns the numbers of its row.
     fn row_numbers(&self) -> RowNumbers
         ensures { result ≡ record {
           n1 = (fields_of self.now).n1;
@@ -275,7 +278,11 @@ impl Entry {
         }
     }
 
-    /// The bytes of its row; an error only for lack of memory.
+    /// Returns the bytes of its row.
+    ///
+    /// # Errors
+    ///
+    /// If memory runs out.
     fn row_bytes(&self, alloc: Global) -> Result<RowBytes, AllocError>
         ensures { IfOk result (λ made. made ≡ record { b1 = (fields_of self.now).b1; b2 = (fields_of self.now).b2 }) }
     {
@@ -327,7 +334,7 @@ struct RowNumbers {
 }
 
 impl RowNumbers {
-    /// These numbers in the first three fields; the others are unused.
+    /// Returns these numbers in the first three fields; the others are unused.
     fn of(n1: u64, n2: u64, n3: u64) -> RowNumbers
         ensures { result ≡ record { n1 = n1; n2 = n2; n3 = n3; n4 = 0; n5 = 0 } }
     {
@@ -349,7 +356,11 @@ struct RowBytes {
 }
 
 impl RowBytes {
-    /// Both fields are unused; takes no memory.
+    /// Returns two unused fields.
+    ///
+    /// # Cost
+    ///
+    /// Takes no memory.
     fn none() -> RowBytes
         ensures { result ≡ record { b1 = []; b2 = [] } }
     {
@@ -359,7 +370,11 @@ impl RowBytes {
         }
     }
 
-    /// A copy of these bytes in the first field; an error only for lack of memory, as in those below.
+    /// Returns a copy of these bytes in the first field.
+    ///
+    /// # Errors
+    ///
+    /// If memory runs out.
     fn of_slice(alloc: Global, first: &[u8]) -> Result<RowBytes, AllocError>
         ensures { IfOk result (λ made. made ≡ record { b1 = first.now; b2 = [] }) }
     {
@@ -379,7 +394,11 @@ impl RowBytes {
         Ok(RowBytes { b1, b2 })
     }
 
-    /// These bytes in the first field, shared.
+    /// Returns these bytes in the first field, shared.
+    ///
+    /// # Errors
+    ///
+    /// If memory runs out.
     fn of_blob(first: &Blob) -> Result<RowBytes, AllocError>
         ensures { IfOk result (λ made. made ≡ record { b1 = first.now; b2 = [] }) }
     {
@@ -390,7 +409,11 @@ impl RowBytes {
         })
     }
 
-    /// This text in the first field, shared.
+    /// Returns this text in the first field, shared.
+    ///
+    /// # Errors
+    ///
+    /// If memory runs out.
     fn of_text(first: &Text) -> Result<RowBytes, AllocError>
         ensures { IfOk result (λ made. made ≡ record { b1 = first.now; b2 = [] }) }
     {
@@ -401,7 +424,11 @@ impl RowBytes {
         })
     }
 
-    /// These texts in both fields, shared.
+    /// Returns these texts in both fields, shared.
+    ///
+    /// # Errors
+    ///
+    /// If memory runs out.
     fn of_texts(first: &Text, second: &Text) -> Result<RowBytes, AllocError>
         ensures { IfOk result (λ made. made ≡ record { b1 = first.now; b2 = second.now }) }
     {
@@ -411,7 +438,7 @@ impl RowBytes {
     }
 }
 
-/// The number that rows tell of a label that may be none: its ordinal's, or 0.
+/// Returns the number that rows tell of a label that may be none: its ordinal's, or 0.
 fn number_of_label(ordinal: &Option<Ordinal>) -> u64
     ensures { result ≡ label_number ordinal.now }
 {
@@ -421,7 +448,7 @@ fn number_of_label(ordinal: &Option<Ordinal>) -> u64
     }
 }
 
-/// The label of a number from 0 to 26: none for 0.
+/// Returns the label of a number from 0 to 26: none for 0.
 fn label_of_number(number: u64) -> Option<Ordinal>
     requires { number ≤ 26 }
     ensures { result ≡ label_numbered number }
@@ -433,7 +460,7 @@ fn label_of_number(number: u64) -> Option<Ordinal>
     }
 }
 
-/// The number that rows tell of a deadline that may be none: its seconds, or 0.
+/// Returns the number that rows tell of a deadline that may be none: its seconds, or 0.
 fn number_of_until(until: &Option<Deadline>) -> u64
     ensures { result ≡ until_number until.now }
 {
@@ -443,7 +470,7 @@ fn number_of_until(until: &Option<Deadline>) -> u64
     }
 }
 
-/// The deadline of a number from 0 to 253,402,207,200: none for 0.
+/// Returns the deadline of a number from 0 to 253,402,207,200: none for 0.
 fn until_of_number(number: u64) -> Option<Deadline>
     requires { number ≤ 253402207200 }
     ensures { result ≡ until_numbered number }
@@ -451,7 +478,7 @@ fn until_of_number(number: u64) -> Option<Deadline>
     Deadline::new(number)
 }
 
-/// The number that rows tell of a command's key that may be none: its own, or 0.
+/// Returns the number that rows tell of a command's key that may be none: its own, or 0.
 fn number_of_key(key: &Option<RetryKey>) -> u64
     ensures { result ≡ key_number key.now }
 {
@@ -461,7 +488,11 @@ fn number_of_key(key: &Option<RetryKey>) -> u64
     }
 }
 
-/// The mark that rows tell of a command's key that may be none; an error only for lack of memory.
+/// Returns the mark that rows tell of a command's key that may be none.
+///
+/// # Errors
+///
+/// If memory runs out.
 fn mark_of_key(alloc: Global, key: &Option<RetryKey>) -> Result<Blob, AllocError>
     ensures { IfOk result (λ mark. mark ≡ key_mark key.now) }
 {
@@ -471,7 +502,7 @@ fn mark_of_key(alloc: Global, key: &Option<RetryKey>) -> Result<Blob, AllocError
     }
 }
 
-/// The key that the fields of a row spell.
+/// Returns the key that the fields of a row spell.
 fn key_of_row(row: &Row) -> Option<RetryKey>
     requires { IsKeyOrNone (key_in (row.now).num (row.now).mark) }
     ensures { result ≡ key_in (row.now).num (row.now).mark }
@@ -483,7 +514,7 @@ fn key_of_row(row: &Row) -> Option<RetryKey>
     })
 }
 
-/// The moment of so many seconds, where there is one.
+/// Returns the moment of so many seconds, where there is one.
 fn moment_of_seconds(seconds: u64) -> Moment
     requires { IsMoment seconds }
     ensures { result ≡ seconds }
@@ -494,7 +525,7 @@ fn moment_of_seconds(seconds: u64) -> Moment
     }
 }
 
-/// The tag that bytes of a tag's grammar are.
+/// Returns the tag that bytes of a tag's grammar are.
 fn tag_of(bytes: &Blob) -> Tag
     requires { IsTrue (is_tag bytes.now) }
     ensures { result ≡ bytes.now }
@@ -505,7 +536,7 @@ fn tag_of(bytes: &Blob) -> Tag
     }
 }
 
-/// The digest that 32 bytes are.
+/// Returns the digest that 32 bytes are.
 fn digest_of(bytes: &Blob) -> Digest
     requires { length bytes.now ≡ 32 }
     ensures { result ≡ bytes.now }
@@ -515,7 +546,7 @@ fn digest_of(bytes: &Blob) -> Digest
     digest
 }
 
-/// The entry of a kind that the fields of a row spell, and none where a number is no word's.
+/// Returns the entry of a kind that the fields of a row spell, or `None` if a number is no word's.
 fn entry_from(kind: EntryKind, row: &Row) -> Result<Option<Entry>, AllocError>
     requires { FitsShape (shape_of kind) row.now }
     ensures { IfOk result (λ found. found ≡ built kind row.now) }
@@ -639,7 +670,7 @@ fn entry_from(kind: EntryKind, row: &Row) -> Result<Option<Entry>, AllocError>
 }
 
 impl Stamp {
-    /// The stamp that the fields of a row spell.
+    /// Returns the command's metadata that the fields of a row spell.
     fn of_row(row: &Row) -> Stamp
         requires { FitsStamp (stamp_in row.now) }
         ensures { result ≡ stamp_in row.now }
@@ -653,9 +684,12 @@ impl Stamp {
 }
 
 impl Stamped {
-    /// The entry of a row, with its stamp and its mark, and none exactly where the row is no
-    /// entry's: no known kind, a number beyond what its kind allows, bytes out of their grammar, or an unused
-    /// field that isn't empty. An error only for lack of memory.
+    /// Returns the entry of a row, with its metadata, or `None` exactly if the row is no entry's: no known kind, a
+    /// number beyond what its kind allows, bytes out of their grammar, or an unused field that isn't empty.
+    ///
+    /// # Errors
+    ///
+    /// If memory runs out.
     pub fn from_row(row: &Row) -> Result<Option<Stamped>, AllocError>
         ensures spells { IfOk result (λ found. IfSome found (λ s. IsBoundedEntry s × (row_of s ≡ row.now))) }
         ensures every { IfOk result (λ found. (s : Stamped) → IsBoundedEntry s → row_of s ≡ row.now → found ≡ Some s) }

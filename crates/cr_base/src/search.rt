@@ -7,14 +7,14 @@ use crate::texts::Blob;
 use crate::words::Decision;
 use std::marker::Model;
 
-/// How a paper stands, as `status:` asks.
+/// A state of a paper, as `status:` names it.
 #[derive(Clone, Copy, PartialEq, Eq)]
 pub enum Status {
     /// It isn't withdrawn.
     Active,
     /// It is withdrawn.
     Withdrawn,
-    /// It is accepted, as everyone is told then.
+    /// It is accepted, and everyone is told so.
     Accepted,
 }
 
@@ -33,12 +33,11 @@ pub enum Feature {
     Decision,
     /// The caller's conflict.
     Conflict,
-    /// The caller's label: she reviews it.
+    /// The caller's label: the caller reviews it.
     Mine,
 }
 
-/// What one term of a search asks of a paper. A text is looked for as it stands, letters
-/// of ASCII without regard to case.
+/// What one term of a search asks of a paper. A text is looked for literally, ASCII letters without regard to case.
 #[derive(Drop)]
 pub enum Term {
     /// Title or abstract has the text.
@@ -55,13 +54,13 @@ pub enum Term {
     Tag(Tag),
     /// The decision is this one, or none was made.
     Decision(Option<Decision>),
-    /// The paper stands so.
+    /// The paper has this status.
     Status(Status),
     /// The paper has that.
     Has(Feature),
 }
 
-/// A step of a search: terms and operations, each operation behind its operands.
+/// A step of a search in postfix order: terms and operations, each operation after its operands.
 #[derive(Drop)]
 pub enum Step {
     /// A term.
@@ -70,18 +69,21 @@ pub enum Step {
     Not,
     /// Both operands hold.
     And {
-        /// How many steps the second operand takes, which stand right before this one.
+        /// How many steps the second operand takes, which come right before this one.
         second: u16,
     },
     /// One of the operands holds, or both.
     Or {
-        /// How many steps the second operand takes, which stand right before this one.
+        /// How many steps the second operand takes, which come right before this one.
         second: u16,
     },
 }
 
-/// A search, or the empty one, which has no step and holds of every paper. Contracts see its steps,
-/// which spell one tree (`tree_of`).
+/// A search, or the empty one, which has no step and holds of every paper.
+///
+/// # Model
+///
+/// Its steps, which spell one tree (`tree_of`).
 #[derive(Drop)]
 pub struct Search {
     steps: Vec<Step>,
@@ -100,7 +102,7 @@ impl Model for Search {
 }
 
 impl Search {
-    /// The search that these steps spell.
+    /// Returns the search that these steps spell.
     pub fn from_steps(steps: Vec<Step>) -> Search
         requires { IsSpelled steps.items }
         ensures { result ≡ steps.items }
@@ -108,7 +110,7 @@ impl Search {
         Search { steps }
     }
 
-    /// Its steps, none of the empty search.
+    /// Returns its steps, none of the empty search.
     pub fn steps(&self) -> &[Step]
         ensures value { result.now ≡ self.now }
         ensures spelled { IsSpelled result.now }

@@ -3,14 +3,14 @@
 use crate::numbers::Ordinal;
 use crate::words::Kind;
 
-/// What a reviewer is to a paper, and whether she still is. A seat is kept when she leaves,
-/// since its label isn't used again.
+/// A reviewer's assignment to a paper, current or ended. It is kept when the reviewer leaves, since its label isn't
+/// used again.
 #[derive(Clone, Copy, PartialEq, Eq)]
 pub struct Seat {
-    /// What she is to the paper.
+    /// The kind of assignment.
     pub kind: Kind,
-    /// The ordinal of her label.
+    /// The ordinal of the reviewer's label.
     pub ordinal: Ordinal,
-    /// Whether she has left it.
+    /// True if the reviewer has left it.
     pub vacated: bool,
 }

@@ -56,18 +56,18 @@ pub enum TextKind {
     Tag,
 }
 
-/// What may stand in a row of one kind.
+/// What a row of one kind may have.
 #[derive(Clone, Copy)]
 pub struct Shape {
     /// The numbers of the field `n1`, and so on.
     pub n1: Range,
-    /// Those of `n2`.
+    /// The range of `n2`.
     pub n2: Range,
-    /// Those of `n3`.
+    /// The range of `n3`.
     pub n3: Range,
-    /// Those of `n4`.
+    /// The range of `n4`.
     pub n4: Range,
-    /// Those of `n5`.
+    /// The range of `n5`.
     pub n5: Range,
     /// The bytes of the field `b1`.
     pub b1: TextKind,
@@ -150,8 +150,8 @@ pub(crate) const DECISIONS: Range = Range {
     gap: None,
 };
 
-/// The phases that may have a deadline: submission to discussion, and the response behind notification and closed,
-/// which may have none.
+/// The phases that may have a deadline by their numbers in rows: submission to discussion, and the response, whose
+/// number is greater than those of notification and closed, which may have none.
 pub(crate) const DEADLINE_PHASES: Range = Range {
     low: 1,
     high: Some(7),
@@ -177,7 +177,7 @@ pub(crate) const UNUSED: Range = Range {
     gap: None,
 };
 
-/// Whether a number is no more than the greatest, where there is one.
+/// Returns whether a number is no more than the greatest, where there is one.
 fn is_at_most(high: Option<u64>, number: u64) -> bool
     ensures { IsTrue result ↔ IsAtMost high number }
 {
@@ -196,7 +196,7 @@ impl Gap {
 }
 
 impl Range {
-    /// Whether a number is between both ends.
+    /// Returns whether a number is between both ends.
     fn spans(self, number: u64) -> bool
         ensures { IsTrue result ↔ IsWithin self number }
     {
@@ -234,7 +234,7 @@ impl TextKind {
 impl Shape {
     ghost use Rattle.cr_base.specs.Shapes.{shape, with_fourth, with_fifth};
 
-    /// What may stand in rows that leave the last two numbers unused.
+    /// Returns the shape of rows that leave the last two numbers unused.
     pub(crate) fn of(n1: Range, n2: Range, n3: Range, b1: TextKind, b2: TextKind) -> Shape
         ensures { result ≡ shape n1 n2 n3 b1 b2 }
     {
@@ -249,14 +249,14 @@ impl Shape {
         }
     }
 
-    /// The same of rows without bytes.
+    /// Returns the shape of rows that leave the last two numbers unused and have no bytes.
     pub(crate) fn of_numbers(n1: Range, n2: Range, n3: Range) -> Shape
         ensures { result ≡ shape n1 n2 n3 TextKind.Nothing TextKind.Nothing }
     {
         Shape::of(n1, n2, n3, TextKind::Nothing, TextKind::Nothing)
     }
 
-    /// The same with these numbers in the field `n4`.
+    /// Returns this shape with these numbers in the field `n4`.
     pub(crate) fn with_fourth(self, n4: Range) -> Shape
         ensures { result ≡ with_fourth n4 self }
     {
@@ -271,7 +271,7 @@ impl Shape {
         }
     }
 
-    /// The same with these numbers in the field `n5`.
+    /// Returns this shape with these numbers in the field `n5`.
     pub(crate) fn with_fifth(self, n5: Range) -> Shape
         ensures { result ≡ with_fifth n5 self }
     {
@@ -286,7 +286,7 @@ impl Shape {
         }
     }
 
-    /// Whether a row has a stamp, a mark and fields as they may be.
+    /// Returns whether a row's metadata, request digest and fields are within this shape.
     pub(crate) fn fits(&self, row: &Row) -> bool
         ensures { IsTrue result ↔ FitsShape self.now row.now }
     {
@@ -303,21 +303,21 @@ impl Shape {
     }
 }
 
-/// Whether the fields of a row's stamp are as they may be.
+/// Returns whether the metadata of a row is within its bounds.
 fn fits_stamp(row: &Row) -> bool
     ensures { IsTrue result ↔ FitsStamp (stamp_in row.now) }
 {
     USERS.holds(row.maker) && row.at <= LAST_MOMENT && fits_key(row)
 }
 
-/// Whether a row has no command number, or one with a mark as they may be.
+/// Returns whether a row has no command number, or one with a mark as they may be.
 fn fits_key(row: &Row) -> bool
     ensures { IsTrue result ↔ IsKeyOrNone (key_in (row.now).num (row.now).mark) }
 {
     row.num == 0 || (row.num <= LAST_COMMAND_NUMBER && row.mark.as_slice().len() == 32)
 }
 
-/// Whether a row without a command number has no mark.
+/// Returns whether a row without a command number has no mark.
 fn fits_mark(row: &Row) -> bool
     ensures { IsTrue result ↔ ((row.now).num ≡ 0 → (row.now).mark ≡ []) }
 {

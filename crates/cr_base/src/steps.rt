@@ -8,10 +8,12 @@ use std::sync::ledger::{Blank, Book, Ledger, Share};
 /// The ledger of those who count nothing: none is ever opened for it.
 pub type Uncounted = Brand;
 
-/// How many stored records were read, each by a call that ticks. Of who counts nothing it says nothing. Ticking is no
-/// code, whoever counts.
+/// How many stored records were read, each by a call that ticks. It counts only for a caller that opens a ledger;
+/// ticking is no code in any case.
 ///
-/// Contracts see the number, or none where nothing is counted.
+/// # Model
+///
+/// The number, or none if nothing is counted.
 pub struct Steps<L: Ledger> {
     tokens: Option<(Book<L>, Share<L>)>,
 }
@@ -35,7 +37,7 @@ impl<L: Ledger> Model for Steps<L> {
 }
 
 impl Steps<Uncounted> {
-    /// Steps that nobody counts.
+    /// Returns steps that no ledger counts.
     pub fn uncounted() -> Steps<Uncounted>
         ensures { result ≡ None }
     {
@@ -44,7 +46,7 @@ impl Steps<Uncounted> {
 }
 
 impl<L: Ledger> Steps<L> {
-    /// No steps yet, to be counted in a ledger of their own.
+    /// Returns no steps yet, to be counted in a ledger of their own.
     pub fn new(blank: Blank) -> Steps<L>
         requires name { blank.name ≡ L.name }
         requires parts { blank.parts ≡ L.parts }
@@ -56,7 +58,7 @@ impl<L: Ledger> Steps<L> {
         }
     }
 
-    /// So many more.
+    /// Adds this many steps.
     pub fn ticks(&mut self, count: u64)
         ensures { Takes count self.old self.new }
     {

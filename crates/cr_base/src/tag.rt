@@ -6,9 +6,12 @@ use crate::numbers::UserNo;
 use crate::texts::{Short, is_name};
 use std::marker::Model;
 
-/// A word that members put on a paper (the HotCRP manual's tags): 1 to 32 of `a-z0-9-`, behind nothing, behind
-/// `~` where the tag is private to whoever sets it, or behind `~~` where it is for chairs. Contracts see the
-/// list of its bytes.
+/// A word that members put on a paper (the HotCRP manual's tags): 1 to 32 of `a-z0-9-`. Before it comes `~` if the tag
+/// is private to the user who sets it, `~~` if it is for chairs, and else nothing.
+///
+/// # Model
+///
+/// The list of its bytes.
 #[derive(Clone, Copy)]
 pub struct Tag {
     text: Short,
@@ -32,11 +35,11 @@ impl Model for Tag {
 pub struct SetTag {
     /// The tag.
     pub tag: Tag,
-    /// Who set it, where it is private; else none.
+    /// The user who set it, if it is private; else `None`.
     pub owner: Option<UserNo>,
 }
 
-/// Whether a `~` stands first.
+/// Returns whether the first byte is `~`.
 fn is_tilded(bytes: &[u8]) -> bool
     ensures { result ≡ is_tilded bytes.now }
 {
@@ -46,7 +49,7 @@ fn is_tilded(bytes: &[u8]) -> bool
     }
 }
 
-/// Whether a `~` stands second.
+/// Returns whether the second byte is `~`.
 fn is_tilded_behind(bytes: &[u8]) -> bool
     ensures { result ≡ is_tilded (drop 1 bytes.now) }
 {
@@ -56,7 +59,7 @@ fn is_tilded_behind(bytes: &[u8]) -> bool
     is_tilded(&bytes[1..])
 }
 
-/// What stands behind the marks.
+/// Returns the word, without its marks.
 fn word_of(bytes: &[u8]) -> &[u8]
     ensures { result.now ≡ tag_word bytes.now }
 {
@@ -70,7 +73,7 @@ fn word_of(bytes: &[u8]) -> &[u8]
     }
 }
 
-/// Whether these bytes are a tag.
+/// Returns whether these bytes are a tag.
 pub fn is_tag(bytes: &[u8]) -> bool
     ensures { result ≡ is_tag_text bytes.now }
 {
@@ -78,7 +81,7 @@ pub fn is_tag(bytes: &[u8]) -> bool
 }
 
 impl Tag {
-    /// The tag that these bytes are, and none exactly where they are of no tag's grammar.
+    /// Returns the tag that these bytes are, and `None` exactly if they are of no tag's grammar.
     pub fn read(bytes: &[u8]) -> Option<Tag>
         ensures some { IfSome result (λ tag. (tag ≡ bytes.now) × IsTrue (is_tag_text bytes.now)) }
         ensures none { IfNone result (IsFalse (is_tag_text bytes.now)) }
@@ -91,7 +94,7 @@ impl Tag {
         })
     }
 
-    /// Its bytes, marks and word: 1 to 34.
+    /// Returns its bytes, marks and word: 1 to 34.
     pub fn as_slice(&self) -> &[u8]
         ensures value { result.now ≡ self.now }
         ensures tag { IsTrue (is_tag_text result.now) }
@@ -100,14 +103,14 @@ impl Tag {
         self.text.as_slice()
     }
 
-    /// Whether it is private to whoever sets it.
+    /// Returns whether it is private to the user who sets it.
     pub fn is_private(&self) -> bool
         ensures { result ≡ is_private self.now }
     {
         is_tilded(self.as_slice()) && !is_tilded_behind(self.as_slice())
     }
 
-    /// Whether it is for chairs.
+    /// Returns whether it is for chairs.
     pub fn is_for_chairs(&self) -> bool
         ensures { result ≡ is_for_chairs self.now }
     {

@@ -2,19 +2,19 @@
 
 use crate::words::Role;
 
-/// What the rules ask about a user whom a command names, where somebody registered the name.
+/// What the rules ask about the user that a command names, if the name is registered.
 #[derive(Clone, Copy, PartialEq, Eq)]
 pub struct Target {
-    /// Her role.
+    /// The user's role.
     pub role: Role,
-    /// Whether she is the caller herself.
+    /// True if the user is the caller.
     pub herself: bool,
-    /// Whether she is an author of the paper named; false where none is.
+    /// True if the user is an author of the paper named; false if none is.
     pub author: bool,
-    /// Whether she is in conflict with the paper named, as each author is; false where none is.
+    /// True if the user is in conflict with the paper named, as each author is; false if none is.
     pub conflicted: bool,
-    /// Whether she reviews the paper named; false where none is.
+    /// True if the user reviews the paper named; false if none is.
     pub reviewer: bool,
-    /// Whether she is an external of the paper named; false where none is.
+    /// True if the user is an external of the paper named; false if none is.
     pub external: bool,
 }

@@ -13,7 +13,11 @@ use std::alloc::{AllocError, AllocFailed, Global};
 use std::hash::{Hash, Hasher};
 use std::marker::Model;
 
-/// Bytes of any length, held once: a copy shares them. Contracts see the list of its bytes.
+/// Bytes of any length, held once: a copy shares them.
+///
+/// # Model
+///
+/// The list of its bytes.
 #[derive(Drop, Debug)]
 pub struct Blob {
     bytes: Bytes,
@@ -26,7 +30,11 @@ impl Model for Blob {
 }
 
 impl Blob {
-    /// No bytes; takes no memory.
+    /// Returns no bytes.
+    ///
+    /// # Cost
+    ///
+    /// Takes no memory.
     pub fn empty() -> Blob
         ensures { result ≡ [] }
     {
@@ -35,7 +43,11 @@ impl Blob {
         }
     }
 
-    /// A copy of these bytes, in a block of their own; an error only for lack of memory.
+    /// Returns a copy of these bytes, in a block of their own.
+    ///
+    /// # Errors
+    ///
+    /// If memory runs out.
     pub fn from_slice(alloc: Global, bytes: &[u8]) -> Result<Blob, AllocError>
         ensures { IfOk result (λ b. b ≡ bytes.now) }
     {
@@ -44,8 +56,8 @@ impl Blob {
         })
     }
 
-    /// The bytes of a vector, whose block it takes: none is copied. Only the count of those who share them takes
-    /// memory, a few bytes; where these can't be had, the vector is handed back.
+    /// Returns the bytes of a vector, whose block it takes: none is copied. Only the count of those who share them
+    /// takes memory, a few bytes; where these can't be had, the vector is handed back.
     pub fn from_vec(bytes: Vec<u8>) -> Result<Blob, AllocFailed<Vec<u8>>>
         ensures ok { IfOk result (λ b. b ≡ bytes.items) }
         ensures back { IfErr result (λ e. e.value.items ≡ bytes.items) }
@@ -64,22 +76,33 @@ impl Blob {
         self.bytes.advance(n);
     }
 
-    /// The bytes.
+    /// Returns the bytes.
     pub fn as_slice(&self) -> &[u8]
         ensures { result.now ≡ self.now }
     {
         self.bytes.as_slice()
     }
 
-    /// Whether both are the same bytes; at most one look at each.
+    /// Returns whether both have equal bytes.
+    ///
+    /// # Cost
+    ///
+    /// At most one look at each byte.
     pub fn is_same(&self, other: &Blob) -> bool
         ensures { IsTrue result ↔ (self.now ≡ other.now) }
     {
         self.as_slice() == other.as_slice()
     }
 
-    /// An equal one, which shares the bytes: its cost is the same whatever their number. An error only for
-    /// lack of memory, of which a few bytes are taken for the count of those who share them.
+    /// Returns an equal one, which shares the bytes.
+    ///
+    /// # Errors
+    ///
+    /// If memory runs out.
+    ///
+    /// # Cost
+    ///
+    /// Doesn't depend on the number of bytes. Takes a few bytes for the count of owners.
     pub fn copy(&self) -> Result<Blob, AllocError>
         ensures { IfOk result (λ b. b ≡ self.now) }
     {
@@ -89,7 +112,11 @@ impl Blob {
     }
 }
 
-/// UTF-8 text of any length, held once: a copy shares it. Contracts see the list of its bytes.
+/// UTF-8 text of any length, held once: a copy shares it.
+///
+/// # Model
+///
+/// The list of its bytes.
 #[derive(Drop)]
 pub struct Text {
     text: ByteStr,
@@ -104,7 +131,11 @@ impl Model for Text {
 }
 
 impl Text {
-    /// A copy of a text, in a block of its own; an error only for lack of memory.
+    /// Returns a copy of a text, in a block of its own.
+    ///
+    /// # Errors
+    ///
+    /// If memory runs out.
     pub fn from_str(alloc: Global, text: &str) -> Result<Text, AllocError>
         ensures { IfOk result (λ t. t ≡ text.now) }
     {
@@ -113,7 +144,11 @@ impl Text {
         })
     }
 
-    /// A text that is made of these bytes, which are UTF-8, and shares them; an error only for lack of memory.
+    /// Returns a text that is made of these bytes, which are UTF-8, and shares them.
+    ///
+    /// # Errors
+    ///
+    /// If memory runs out.
     pub fn from_blob(bytes: &Blob) -> Result<Text, AllocError>
         requires { IsTrue (is_utf8 bytes.now) }
         ensures { IfOk result (λ t. t ≡ bytes.now) }
@@ -124,14 +159,18 @@ impl Text {
         })
     }
 
-    /// The text, lent.
+    /// Returns the text, lent.
     pub fn as_str(&self) -> &str
         ensures { result.now ≡ self.now }
     {
         self.text.as_str()
     }
 
-    /// Its bytes, which it shares; an error only for lack of memory.
+    /// Returns its bytes, which it shares.
+    ///
+    /// # Errors
+    ///
+    /// If memory runs out.
     pub fn to_blob(&self) -> Result<Blob, AllocError>
         ensures { IfOk result (λ b. b ≡ self.now) }
     {
@@ -140,8 +179,15 @@ impl Text {
         })
     }
 
-    /// An equal one, which shares the text: its cost is the same whatever its length. An error only for want of
-    /// memory.
+    /// Returns an equal one, which shares the text.
+    ///
+    /// # Errors
+    ///
+    /// If memory runs out.
+    ///
+    /// # Cost
+    ///
+    /// Doesn't depend on the length.
     pub fn copy(&self) -> Result<Text, AllocError>
         ensures { IfOk result (λ t. t ≡ self.now) }
     {
@@ -151,7 +197,7 @@ impl Text {
     }
 }
 
-/// Two texts that are made at once: behind a `?` of the second, the first is dropped here and in no long `match`.
+/// Two texts that are made at once: after a `?` of the second, the first is dropped here and in no long `match`.
 #[derive(Drop)]
 pub(crate) struct TwoTexts {
     pub(crate) first: Text,
@@ -159,7 +205,11 @@ pub(crate) struct TwoTexts {
 }
 
 impl TwoTexts {
-    /// Equal ones, which share the texts; an error only for lack of memory.
+    /// Returns equal ones, which share the texts.
+    ///
+    /// # Errors
+    ///
+    /// If memory runs out.
     pub(crate) fn copies(first: &Text, second: &Text) -> Result<TwoTexts, AllocError>
         ensures { IfOk result (λ made. made ≡ record { first = first.now; second = second.now }) }
     {
@@ -168,7 +218,11 @@ impl TwoTexts {
         Ok(TwoTexts { first, second })
     }
 
-    /// Texts that are made of these bytes, which are UTF-8, and share them; an error only for lack of memory.
+    /// Returns texts made of these bytes, which are UTF-8, and share them.
+    ///
+    /// # Errors
+    ///
+    /// If memory runs out.
     pub(crate) fn from_blobs(first: &Blob, second: &Blob) -> Result<TwoTexts, AllocError>
         requires first { IsTrue (is_utf8 first.now) }
         requires second { IsTrue (is_utf8 second.now) }
@@ -180,7 +234,11 @@ impl TwoTexts {
     }
 }
 
-/// At most 34 bytes, kept in place: a name, say. Contracts see the list of its bytes.
+/// At most 34 bytes, kept in place: a name, say.
+///
+/// # Model
+///
+/// The list of its bytes.
 #[derive(Clone, Copy)]
 pub struct Short {
     bytes: [u8; 34],
@@ -204,7 +262,7 @@ impl Model for Short {
 }
 
 impl Short {
-    /// A copy of at most 34 bytes.
+    /// Returns a copy of at most 34 bytes.
     pub fn from_slice(bytes: &[u8]) -> Short
         requires { length bytes.now ≤ 34 }
         ensures { result ≡ bytes.now }
@@ -215,7 +273,7 @@ impl Short {
         Short { bytes: kept, len }
     }
 
-    /// The bytes, at most 34.
+    /// Returns the bytes, at most 34.
     pub fn as_slice(&self) -> &[u8]
         ensures value { result.now ≡ self.now }
         ensures short { length result.now ≤ 34 }
@@ -257,21 +315,21 @@ impl Hash for Short {
     }
 }
 
-/// Whether a byte may stand in a name: `a` to `z`, `0` to `9` or `-`.
+/// Returns whether a name may have this byte: `a` to `z`, `0` to `9` or `-`.
 fn is_name_byte(byte: u8) -> bool
     ensures { result ≡ is_name_byte byte }
 {
     byte.is_ascii_lowercase() || byte.is_ascii_digit() || byte == b'-'
 }
 
-/// Whether every byte may stand in a name.
+/// Returns whether a name may have every one of these bytes.
 fn all_name_bytes(bytes: &[u8]) -> bool
     ensures { result ≡ list_all is_name_byte bytes.now }
 {
     bytes.iter().all(|byte| is_name_byte(*byte))
 }
 
-/// Whether these bytes are a user's name: 1 to 32 of `a-z0-9-`.
+/// Returns whether these bytes are a user's name: 1 to 32 of `a-z0-9-`.
 pub fn is_name(bytes: &[u8]) -> bool
     ensures name { IsTrue result ↔ IsName bytes.now }
     ensures test { result ≡ is_name_text bytes.now }
@@ -279,7 +337,11 @@ pub fn is_name(bytes: &[u8]) -> bool
     !bytes.is_empty() && bytes.len() <= 32 && all_name_bytes(bytes)
 }
 
-/// Whether these bytes are UTF-8. One walk over them; takes no memory.
+/// Returns whether these bytes are UTF-8.
+///
+/// # Cost
+///
+/// One walk over them. Takes no memory.
 pub fn is_text(bytes: &[u8]) -> bool
     ensures { result ≡ is_utf8 bytes.now }
 {
@@ -289,21 +351,21 @@ pub fn is_text(bytes: &[u8]) -> bool
     }
 }
 
-/// Whether a byte may stand in a title: no control character's.
+/// Returns whether a title may have this byte: no control character's.
 fn is_title_byte(byte: u8) -> bool
     ensures { result ≡ is_title_byte byte }
 {
     byte >= 0x20 && byte != 0x7f
 }
 
-/// Whether every byte may stand in a title.
+/// Returns whether a title may have every one of these bytes.
 fn all_title_bytes(bytes: &[u8]) -> bool
     ensures { result ≡ list_all is_title_byte bytes.now }
 {
     bytes.iter().all(|byte| is_title_byte(*byte))
 }
 
-/// Whether these bytes are a paper's title: UTF-8 of 1 to 200 bytes, with no character below U+0020 and no
+/// Returns whether these bytes are a paper's title: UTF-8 of 1 to 200 bytes, with no character below U+0020 and no
 /// U+007F.
 pub fn is_title(bytes: &[u8]) -> bool
     ensures title { IsTrue result ↔ IsTitle bytes.now }
@@ -312,7 +374,7 @@ pub fn is_title(bytes: &[u8]) -> bool
     !bytes.is_empty() && bytes.len() <= 200 && all_title_bytes(bytes) && is_text(bytes)
 }
 
-/// Whether these bytes are a paper's abstract: UTF-8, at most 5,000 bytes.
+/// Returns whether these bytes are a paper's abstract: UTF-8, at most 5,000 bytes.
 pub fn is_abstract(bytes: &[u8]) -> bool
     ensures abstract_ { IsTrue result ↔ IsAbstract bytes.now }
     ensures test { result ≡ is_abstract_text bytes.now }
@@ -320,7 +382,7 @@ pub fn is_abstract(bytes: &[u8]) -> bool
     bytes.len() <= 5_000 && is_text(bytes)
 }
 
-/// Whether these bytes are a text of a review: UTF-8, at most 20,000 bytes.
+/// Returns whether these bytes are a text of a review: UTF-8, at most 20,000 bytes.
 pub fn is_review_text(bytes: &[u8]) -> bool
     ensures text { IsTrue result ↔ IsReviewText bytes.now }
     ensures test { result ≡ is_review_text_of bytes.now }
@@ -328,7 +390,7 @@ pub fn is_review_text(bytes: &[u8]) -> bool
     bytes.len() <= 20_000 && is_text(bytes)
 }
 
-/// Whether these bytes are a comment: UTF-8, 1 to 10,000 bytes.
+/// Returns whether these bytes are a comment: UTF-8, 1 to 10,000 bytes.
 pub fn is_comment(bytes: &[u8]) -> bool
     ensures comment { IsTrue result ↔ IsCommentText bytes.now }
     ensures test { result ≡ is_comment_text bytes.now }
@@ -336,7 +398,7 @@ pub fn is_comment(bytes: &[u8]) -> bool
     !bytes.is_empty() && bytes.len() <= 10_000 && is_text(bytes)
 }
 
-/// Whether these bytes may be uploaded at once: any, at most 4,194,304.
+/// Returns whether these bytes may be uploaded at once: any, at most 4,194,304.
 pub fn is_content(bytes: &[u8]) -> bool
     ensures { IsTrue result ↔ IsContent bytes.now }
 {

@@ -5,7 +5,11 @@ use crate::numbers::UserNo;
 use crate::texts::Short;
 use std::marker::Model;
 
-/// Names as they were told, in their order; None where what was told is no name. Contracts see the list.
+/// Names as they were told, in their order; `None` if what was told is no name.
+///
+/// # Model
+///
+/// The list.
 #[derive(Drop)]
 pub struct ToldNames {
     names: Vec<Option<Short>>,
@@ -20,14 +24,18 @@ impl Model for ToldNames {
 }
 
 impl ToldNames {
-    /// The names of a vector; takes no memory.
+    /// Returns the names of a vector.
+    ///
+    /// # Cost
+    ///
+    /// Takes no memory.
     pub fn from_vec(names: Vec<Option<Short>>) -> ToldNames
         ensures { result ≡ names.items }
     {
         ToldNames { names }
     }
 
-    /// The names.
+    /// Returns the names.
     pub fn as_slice(&self) -> &[Option<Short>]
         ensures { result.now ≡ self.now }
     {
@@ -38,7 +46,11 @@ impl ToldNames {
 /// The most co-authors that a submission may tell.
 pub const MOST_COAUTHORS: usize = 19;
 
-/// A paper's co-authors, at most 19, kept in place: no memory is taken for them. Contracts see the list.
+/// A paper's co-authors, at most 19, kept in place: no memory is taken for them.
+///
+/// # Model
+///
+/// The list.
 #[derive(Drop)]
 pub struct Coauthors {
     users: [UserNo; MOST_COAUTHORS],
@@ -56,7 +68,7 @@ impl Model for Coauthors {
 }
 
 impl Coauthors {
-    /// None.
+    /// Returns no co-authors.
     pub fn none() -> Coauthors
         ensures { result ≡ [] }
     {
@@ -66,7 +78,7 @@ impl Coauthors {
         }
     }
 
-    /// Their numbers, at most 19, in the order told.
+    /// Returns their numbers, at most 19, in the order of the request.
     pub fn as_slice(&self) -> &[UserNo]
         ensures value { result.now ≡ self.now }
         ensures few { length result.now ≤ 19 }
@@ -74,7 +86,7 @@ impl Coauthors {
         &self.users[..self.count]
     }
 
-    /// One more, behind the others.
+    /// Adds one more after the others.
     pub fn push(&mut self, user: UserNo)
         requires { length self.old < 19 }
         ensures { self.new ≡ self.old ++ user ∷ [] }

@@ -28,7 +28,7 @@ pub enum Phase {
     Closed,
 }
 
-/// Who sees the names of authors and reviewers; a conference starts in `Blind`.
+/// The conference's mode: who sees the names of authors and reviewers. A conference starts in `Blind`.
 #[derive(Clone, Copy, PartialEq, Eq)]
 pub enum Mode {
     /// Authors see who reviewed them, and reviewers who wrote. Its word is `open`.
@@ -43,11 +43,11 @@ pub enum Mode {
 /// What a reviewer is to a paper.
 #[derive(Clone, Copy, PartialEq, Eq)]
 pub enum Kind {
-    /// She answers for its reviews first.
+    /// Answers first for the paper's reviews.
     Primary,
-    /// She does where the primary reviewer can't.
+    /// Does if the primary reviewer can't.
     Secondary,
-    /// She reviews it as a member of the programme committee.
+    /// Reviews the paper as a member of the programme committee.
     Pc,
 }
 
@@ -72,7 +72,7 @@ pub enum Role {
 }
 
 impl Phase {
-    /// The word for it in requests and answers, at most 12 bytes.
+    /// Returns the word for it in requests and answers, at most 12 bytes.
     pub fn name(self) -> &'static str
         ensures value { result.now ≡ phase_name self }
         ensures short { length result.now ≤ 12 }
@@ -89,7 +89,7 @@ impl Phase {
         }
     }
 
-    /// The phase of a word, and none where no phase is called so.
+    /// Returns the phase of a word, or `None` if no phase is called so.
     pub fn from_name(name: &str) -> Option<Phase>
         ensures { result ≡ phase_named name.now }
     {
@@ -106,7 +106,8 @@ impl Phase {
         }
     }
 
-    /// Its number in rows, 0 for setup to 6 for closed, and 7 for the response. It doesn't say which phase comes first.
+    /// Returns its number in rows, 0 for setup to 6 for closed, and 7 for the response. It doesn't say which phase
+    /// comes first.
     pub fn number(self) -> u64
         ensures { result ≡ phase_number self }
     {
@@ -122,7 +123,7 @@ impl Phase {
         }
     }
 
-    /// The phase of a number in rows, and none where no phase has it.
+    /// Returns the phase of a number in rows, or `None` if no phase has it.
     pub(crate) fn from_number(number: u64) -> Option<Phase>
         ensures { result ≡ phase_numbered number }
     {
@@ -141,7 +142,7 @@ impl Phase {
 }
 
 impl Mode {
-    /// The word for it in requests and answers, at most 9 bytes.
+    /// Returns the word for it in requests and answers, at most 9 bytes.
     pub fn name(self) -> &'static str
         ensures value { result.now ≡ mode_name self }
         ensures short { length result.now ≤ 9 }
@@ -153,7 +154,7 @@ impl Mode {
         }
     }
 
-    /// The mode of a word, and none where no mode is called so.
+    /// Returns the mode of a word, or `None` if no mode is called so.
     pub fn from_name(name: &str) -> Option<Mode>
         ensures { result ≡ mode_named name.now }
     {
@@ -165,7 +166,7 @@ impl Mode {
         }
     }
 
-    /// Its number in rows: 0 for open, 1 for blind, 2 for anonymous.
+    /// Returns its number in rows: 0 for open, 1 for blind, 2 for anonymous.
     pub fn number(self) -> u64
         ensures { result ≡ mode_number self }
     {
@@ -176,7 +177,7 @@ impl Mode {
         }
     }
 
-    /// The mode of a number in rows, and none where no mode has it.
+    /// Returns the mode of a number in rows, or `None` if no mode has it.
     pub(crate) fn from_number(number: u64) -> Option<Mode>
         ensures { result ≡ mode_numbered number }
     {
@@ -188,7 +189,7 @@ impl Mode {
         }
     }
 
-    /// Whether externals, and members other than chairs, don't see who wrote.
+    /// Returns whether externals, and members other than chairs, don't see who wrote.
     pub fn is_anonymous(self) -> bool
         ensures { result ≡ is_anonymous self }
     {
@@ -198,7 +199,7 @@ impl Mode {
         }
     }
 
-    /// Whether authors see who reviewed them.
+    /// Returns whether authors see who reviewed them.
     pub fn is_overt(self) -> bool
         ensures { result ≡ is_overt self }
     {
@@ -210,7 +211,7 @@ impl Mode {
 }
 
 impl Kind {
-    /// The word for it in requests and answers, at most 9 bytes.
+    /// Returns the word for it in requests and answers, at most 9 bytes.
     pub fn name(self) -> &'static str
         ensures value { result.now ≡ review_kind_name self }
         ensures short { length result.now ≤ 9 }
@@ -222,7 +223,7 @@ impl Kind {
         }
     }
 
-    /// The kind of a word, and none where no kind is called so.
+    /// Returns the kind of a word, or `None` if no kind is called so.
     pub fn from_name(name: &str) -> Option<Kind>
         ensures { result ≡ review_kind_named name.now }
     {
@@ -234,7 +235,7 @@ impl Kind {
         }
     }
 
-    /// Its number in rows: 1 for primary, 2 for secondary, 3 for pc.
+    /// Returns its number in rows: 1 for primary, 2 for secondary, 3 for pc.
     pub fn number(self) -> u64
         ensures { result ≡ review_kind_number self }
     {
@@ -245,7 +246,7 @@ impl Kind {
         }
     }
 
-    /// The kind of a number in rows, and none where no kind has it.
+    /// Returns the kind of a number in rows, or `None` if no kind has it.
     pub(crate) fn from_number(number: u64) -> Option<Kind>
         ensures { result ≡ review_kind_numbered number }
     {
@@ -259,7 +260,7 @@ impl Kind {
 }
 
 impl Decision {
-    /// The word for it in requests and answers, 6 bytes.
+    /// Returns the word for it in requests and answers, 6 bytes.
     pub fn name(self) -> &'static str
         ensures value { result.now ≡ decision_name self }
         ensures short { length result.now ≤ 6 }
@@ -270,7 +271,7 @@ impl Decision {
         }
     }
 
-    /// The decision of a word, and none where no decision is called so.
+    /// Returns the decision of a word, or `None` if no decision is called so.
     pub fn from_name(name: &str) -> Option<Decision>
         ensures { result ≡ decision_named name.now }
     {
@@ -281,7 +282,7 @@ impl Decision {
         }
     }
 
-    /// Its number in rows: 1 for accept, 2 for reject.
+    /// Returns its number in rows: 1 for accept, 2 for reject.
     pub fn number(self) -> u64
         ensures { result ≡ decision_number self }
     {
@@ -291,7 +292,7 @@ impl Decision {
         }
     }
 
-    /// The decision of a number in rows, and none where no decision has it.
+    /// Returns the decision of a number in rows, or `None` if no decision has it.
     pub(crate) fn from_number(number: u64) -> Option<Decision>
         ensures { result ≡ decision_numbered number }
     {
@@ -304,7 +305,7 @@ impl Decision {
 }
 
 impl Role {
-    /// The word for it in requests and answers, at most 7 bytes.
+    /// Returns the word for it in requests and answers, at most 7 bytes.
     pub fn name(self) -> &'static str
         ensures value { result.now ≡ role_name self }
         ensures short { length result.now ≤ 7 }
@@ -316,8 +317,8 @@ impl Role {
         }
     }
 
-    /// The role that somebody is named to by a word, and none where no such role is called so: nobody is
-    /// named an account.
+    /// Returns the role to which a word appoints, or `None` if no such role has this word: no user is appointed to an
+    /// account.
     pub fn from_name(name: &str) -> Option<Role>
         ensures { result ≡ role_named name.now }
     {
@@ -328,7 +329,7 @@ impl Role {
         }
     }
 
-    /// Whether it is a member's; a chair is a member.
+    /// Returns whether it is a member's; a chair is a member.
     pub fn is_member(self) -> bool
         ensures { result ≡ is_member self }
     {
@@ -338,7 +339,7 @@ impl Role {
         }
     }
 
-    /// Whether it is a chair's.
+    /// Returns whether it is a chair's.
     pub fn is_chair(self) -> bool
         ensures { result ≡ is_chair self }
     {
@@ -348,7 +349,7 @@ impl Role {
         }
     }
 
-    /// Its number in rows, which also ranks it: 0 for an account, 1 for a member, 2 for a chair.
+    /// Returns its number in rows, which also ranks it: 0 for an account, 1 for a member, 2 for a chair.
     pub fn number(self) -> u64
         ensures { result ≡ role_number self }
     {
@@ -359,7 +360,7 @@ impl Role {
         }
     }
 
-    /// The role that a row names somebody to by a number, and none where no such role has it: nobody is named an
+    /// Returns the role to which a row's number appoints, or `None` if no such role has it: no user is appointed to an
     /// account.
     pub(crate) fn from_number(number: u64) -> Option<Role>
         ensures { result ≡ role_numbered number }

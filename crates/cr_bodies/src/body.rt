@@ -17,7 +17,7 @@ use cr_base::{Ask, Command, DecodeError, Form, PaperNo, Text};
 use serde_json::Value;
 use std::alloc::Global;
 
-/// The JSON value of a body.
+/// Returns the JSON value of a body.
 fn read_json(alloc: Global, body: &[u8]) -> Result<Value, DecodeError>
     ensures { DecodesSeen view result (json_of body.now) }
 {
@@ -28,7 +28,7 @@ fn read_json(alloc: Global, body: &[u8]) -> Result<Value, DecodeError>
     }
 }
 
-/// The registration that a JSON value tells.
+/// Returns the registration that a JSON value tells.
 fn registration(body: &Value) -> Result<Command, DecodeError>
     ensures told { Decodes result (command_in_text Ask.Register None (view body.now)) }
     ensures bounded { IfOk result IsBoundedCommand }
@@ -38,7 +38,7 @@ fn registration(body: &Value) -> Result<Command, DecodeError>
     Ok(Command::Register { name, digest })
 }
 
-/// The naming of a member or a chair that a JSON value tells.
+/// Returns the naming of a member or a chair that a JSON value tells.
 fn naming(body: &Value) -> Result<Command, DecodeError>
     ensures told { Decodes result (command_in_text Ask.Name None (view body.now)) }
     ensures bounded { IfOk result IsBoundedCommand }
@@ -48,7 +48,7 @@ fn naming(body: &Value) -> Result<Command, DecodeError>
     Ok(Command::Name { user, role })
 }
 
-/// The deadline that a JSON value tells.
+/// Returns the deadline that a JSON value tells.
 fn deadline(body: &Value) -> Result<Command, DecodeError>
     ensures told { Decodes result (command_in_text Ask.SetDeadline None (view body.now)) }
     ensures bounded { IfOk result IsBoundedCommand }
@@ -58,7 +58,7 @@ fn deadline(body: &Value) -> Result<Command, DecodeError>
     Ok(Command::SetDeadline { phase, until })
 }
 
-/// The submission that a JSON value tells.
+/// Returns the submission that a JSON value tells.
 fn submission(alloc: Global, body: &Value) -> Result<Command, DecodeError>
     ensures told { Decodes result (command_in_text Ask.Submit None (view body.now)) }
     ensures bounded { IfOk result IsBoundedCommand }
@@ -75,7 +75,7 @@ fn submission(alloc: Global, body: &Value) -> Result<Command, DecodeError>
     })
 }
 
-/// The revision that a JSON value tells.
+/// Returns the revision that a JSON value tells.
 fn revision(alloc: Global, paper: Option<PaperNo>, body: &Value) -> Result<Command, DecodeError>
     ensures told { Decodes result (command_in_text Ask.Revise paper (view body.now)) }
     ensures bounded { IfOk result IsBoundedCommand }
@@ -91,7 +91,7 @@ fn revision(alloc: Global, paper: Option<PaperNo>, body: &Value) -> Result<Comma
     })
 }
 
-/// The conflict that a JSON value tells.
+/// Returns the conflict that a JSON value tells.
 fn conflict(paper: Option<PaperNo>, body: &Value) -> Result<Command, DecodeError>
     ensures told { Decodes result (command_in_text Ask.SetConflict paper (view body.now)) }
     ensures bounded { IfOk result IsBoundedCommand }
@@ -101,7 +101,7 @@ fn conflict(paper: Option<PaperNo>, body: &Value) -> Result<Command, DecodeError
     Ok(Command::SetConflict { paper, user, on })
 }
 
-/// The bid that a JSON value tells.
+/// Returns the bid that a JSON value tells.
 fn bidding(paper: Option<PaperNo>, body: &Value) -> Result<Command, DecodeError>
     ensures told { Decodes result (command_in_text Ask.Bid paper (view body.now)) }
     ensures bounded { IfOk result IsBoundedCommand }
@@ -110,7 +110,7 @@ fn bidding(paper: Option<PaperNo>, body: &Value) -> Result<Command, DecodeError>
     Ok(Command::Bid { paper, value })
 }
 
-/// The assignment that a JSON value tells.
+/// Returns the assignment that a JSON value tells.
 fn assignment(paper: Option<PaperNo>, body: &Value) -> Result<Command, DecodeError>
     ensures told { Decodes result (command_in_text Ask.Assign paper (view body.now)) }
     ensures bounded { IfOk result IsBoundedCommand }
@@ -120,7 +120,7 @@ fn assignment(paper: Option<PaperNo>, body: &Value) -> Result<Command, DecodeErr
     Ok(Command::Assign { paper, user, kind })
 }
 
-/// The invitation that a JSON value tells.
+/// Returns the invitation that a JSON value tells.
 fn invitation(paper: Option<PaperNo>, body: &Value) -> Result<Command, DecodeError>
     ensures told { Decodes result (command_in_text Ask.Invite paper (view body.now)) }
     ensures bounded { IfOk result IsBoundedCommand }
@@ -129,7 +129,7 @@ fn invitation(paper: Option<PaperNo>, body: &Value) -> Result<Command, DecodeErr
     Ok(Command::Invite { paper, user })
 }
 
-/// The review that a JSON value tells.
+/// Returns the review that a JSON value tells.
 fn review(alloc: Global, paper: Option<PaperNo>, body: &Value) -> Result<Command, DecodeError>
     ensures told { Decodes result (command_in_text Ask.Review paper (view body.now)) }
     ensures bounded { IfOk result IsBoundedCommand }
@@ -151,7 +151,7 @@ fn review(alloc: Global, paper: Option<PaperNo>, body: &Value) -> Result<Command
     })
 }
 
-/// The response that a JSON value tells.
+/// Returns the response that a JSON value tells.
 fn response(alloc: Global, paper: Option<PaperNo>, body: &Value) -> Result<Command, DecodeError>
     ensures told { Decodes result (command_in_text Ask.Respond paper (view body.now)) }
     ensures bounded { IfOk result IsBoundedCommand }
@@ -161,7 +161,7 @@ fn response(alloc: Global, paper: Option<PaperNo>, body: &Value) -> Result<Comma
     Ok(Command::Respond { paper, text })
 }
 
-/// The comment that a JSON value tells.
+/// Returns the comment that a JSON value tells.
 fn comment(alloc: Global, paper: Option<PaperNo>, body: &Value) -> Result<Command, DecodeError>
     ensures told { Decodes result (command_in_text Ask.Comment paper (view body.now)) }
     ensures bounded { IfOk result IsBoundedCommand }
@@ -171,8 +171,8 @@ fn comment(alloc: Global, paper: Option<PaperNo>, body: &Value) -> Result<Comman
     Ok(Command::Comment { paper, text })
 }
 
-/// The command that a JSON value tells a request: the table of what each body must have, a key and a kind of value a
-/// member. Only texts take memory, and the names of a submission's other authors.
+/// Returns the command that a JSON value tells a request: the table of what each body must have, a key and a kind of
+/// value a member. Only texts take memory, and the names of a submission's other authors.
 fn command_in(
     alloc: Global,
     ask: Ask,
@@ -219,10 +219,18 @@ fn command_in(
     }
 }
 
-/// The command that the JSON body of a request tells, with the paper that its path tells, where the command is
-/// about one. Reads the body once. `Malformed` comes exactly where the body is no JSON object with the members that
-/// such a request must have, memory aside; so it does where what is asked for is told by no JSON body: a query, an
-/// upload, a withdrawal, that a member, a reviewer or an external leaves, a tag, or a bulk.
+/// Returns the command that the JSON body of a request tells, with the paper of its path, if the command is about one.
+///
+/// # Errors
+///
+/// - `Malformed`: exactly if the body is no JSON object with the members that such a request must have, unless memory
+///   runs out. So it is for requests without a JSON body: a query, an upload, a withdrawal, a dismissal, an
+///   unassignment, an uninvitation, a tag, a bulk.
+/// - Lack of memory.
+///
+/// # Cost
+///
+/// Reads the body once.
 pub fn read_command(
     alloc: Global,
     ask: Ask,

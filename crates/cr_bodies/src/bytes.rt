@@ -2,14 +2,14 @@
 ghost use Rattle.std.specs.Prelude.{◌≡◌, ◌==◌, ◌≤◌, length};
 ghost use Rattle.std.specs.List.{position, position_or_len, before_first as front, after_first as back};
 
-/// The index of the first such byte.
+/// Returns the index of the first such byte.
 fn find(byte: u8, text: &[u8]) -> Option<usize>
     ensures { result ≡ position (λ b. b == byte) text.now }
 {
     text.iter().position(|b| *b == byte)
 }
 
-/// The index of the first such byte, or the length where there is none.
+/// Returns the index of the first such byte, or the length where there is none.
 fn index_of(byte: u8, text: &[u8]) -> usize
     ensures value { result ≡ position_or_len (λ b. b == byte) text.now }
     ensures within { result ≤ length text.now }
@@ -20,15 +20,22 @@ fn index_of(byte: u8, text: &[u8]) -> usize
     }
 }
 
-/// The bytes in front of the first such byte, all of them where there is none. One walk
-/// up to the byte; takes no memory.
+/// Returns the bytes in front of the first such byte, all of them where there is none.
+///
+/// # Cost
+///
+/// One walk up to the byte. Takes no memory.
 pub fn before_first(byte: u8, text: &[u8]) -> &[u8]
     ensures { result.now ≡ front (λ b. b == byte) text.now }
 {
     &text[..index_of(byte, text)]
 }
 
-/// The bytes behind the first such byte, none where there is none. One walk up to the byte; takes no memory.
+/// Returns the bytes after the first such byte, none if there is none.
+///
+/// # Cost
+///
+/// One walk up to the byte. Takes no memory.
 pub fn after_first(byte: u8, text: &[u8]) -> &[u8]
     ensures { result.now ≡ back (λ b. b == byte) text.now }
 {

@@ -15,7 +15,7 @@ pub struct Credentials {
     pub digest: Digest,
 }
 
-/// The bytes behind the spaces at the front.
+/// Returns the bytes after the leading spaces.
 fn without_spaces(text: &[u8]) -> &[u8]
     ensures { result.now ≡ after_spaces text.now }
 {
@@ -26,7 +26,7 @@ fn without_spaces(text: &[u8]) -> &[u8]
     rest
 }
 
-/// The credentials of a name and a secret.
+/// Returns the credentials of a name and a secret.
 #[tactic(auto, unfolding(crate::specs::Credentials::credentials))]
 fn credentials_from(name: &[u8], secret: &[u8]) -> Option<Credentials>
     ensures { result ≡ credentials name.now secret.now }
@@ -41,7 +41,7 @@ fn credentials_from(name: &[u8], secret: &[u8]) -> Option<Credentials>
     }
 }
 
-/// The credentials of a token.
+/// Returns the credentials of a token.
 #[tactic(auto, unfolding(crate::specs::Credentials::token_of))]
 fn read_token(token: &[u8]) -> Option<Credentials>
     ensures { result ≡ token_of token.now }
@@ -49,9 +49,13 @@ fn read_token(token: &[u8]) -> Option<Credentials>
     credentials_from(before_first(b'.', token), after_first(b'.', token))
 }
 
-/// The credentials that the value of an Authorization field tells: the scheme `Bearer` in any case, one or more
-/// spaces, and a token (RFC 6750, section 2.1) that is a name, a full stop and a secret. None where it is anything
-/// else. Costs one walk over the value and the digest of at most 64 bytes.
+/// Returns the credentials that the value of an Authorization field tells: the scheme `Bearer` in any case, one or
+/// more spaces, and a token (RFC 6750, section 2.1) that is a name, a full stop and a secret. `None` if it is anything
+/// else.
+///
+/// # Cost
+///
+/// One walk over the value and the digest of at most 64 bytes.
 pub fn read_credentials(value: &[u8]) -> Option<Credentials>
     ensures { result ≡ credentials_of value.now }
 {

@@ -39,7 +39,11 @@ pub(crate) enum Grammar {
 }
 
 impl Grammar {
-    /// Whether a text is of this grammar. One walk over at most as many bytes as the grammar allows.
+    /// Returns whether a text is of this grammar.
+    ///
+    /// # Cost
+    ///
+    /// One walk over at most as many bytes as the grammar allows.
     fn admits(self, text: &[u8]) -> bool
         ensures test { result ≡ admits_text self text.now }
         ensures valid { IsTrue result → IsOf self text.now }
@@ -55,7 +59,7 @@ impl Grammar {
     }
 }
 
-/// The text under a key.
+/// Returns the text under a key.
 fn text<'a>(body: &'a Value, key: &str) -> Result<&'a str, DecodeError>
     ensures { TellsSeen (λ t. t.now) result (text_under key.now (view body.now)) }
 {
@@ -65,7 +69,7 @@ fn text<'a>(body: &'a Value, key: &str) -> Result<&'a str, DecodeError>
     }
 }
 
-/// The text under a key, where it is of a grammar.
+/// Returns the text under a key, if it is of a grammar.
 pub(crate) fn tested<'a>(
     body: &'a Value,
     key: &str,
@@ -82,7 +86,7 @@ pub(crate) fn tested<'a>(
     }
 }
 
-/// The name under a key.
+/// Returns the name under a key.
 pub(crate) fn name(body: &Value, key: &str) -> Result<Short, DecodeError>
     ensures told { Tells result (name_under key.now (view body.now)) }
     ensures valid { IfOk result IsName }
@@ -91,7 +95,7 @@ pub(crate) fn name(body: &Value, key: &str) -> Result<Short, DecodeError>
     Ok(Short::from_slice(text.as_bytes()))
 }
 
-/// The digest of the secret under a key.
+/// Returns the digest of the secret under a key.
 pub(crate) fn digest(body: &Value, key: &str) -> Result<Digest, DecodeError>
     ensures { Tells result (digest_under key.now (view body.now)) }
 {
@@ -99,7 +103,7 @@ pub(crate) fn digest(body: &Value, key: &str) -> Result<Digest, DecodeError>
     Ok(digest_of(text.as_bytes()))
 }
 
-/// The user whose name is told by the text under a key: None where the text is no name.
+/// Returns the user whose name is told by the text under a key: `None` if the text is no name.
 pub(crate) fn user(body: &Value, key: &str) -> Result<Option<Short>, DecodeError>
     ensures { Tells result (user_under key.now (view body.now)) }
 {
@@ -107,7 +111,7 @@ pub(crate) fn user(body: &Value, key: &str) -> Result<Option<Short>, DecodeError
     Ok(parse_name(text.as_bytes()))
 }
 
-/// The names that a list tells, each None where its text is no name.
+/// Returns the names that a list tells, each `None` if its text is no name.
 fn names_in(alloc: Global, items: &[Value]) -> Result<ToldNames, DecodeError>
     ensures told { Decodes result (names_of (Some (array (items_view items.now)))) }
     ensures few { IfOk result (λ names. length names ≤ 19) }
@@ -125,8 +129,8 @@ fn names_in(alloc: Global, items: &[Value]) -> Result<ToldNames, DecodeError>
     Ok(ToldNames::from_vec(names))
 }
 
-/// The names that the list under a key tells, at most 19 and each None where its text is no name; none where the key
-/// isn't there. One vector is taken for them.
+/// Returns the names that the list under a key tells, at most 19 and each `None` if its text is no name; `None` if the
+/// key isn't there. One vector is taken for them.
 pub(crate) fn names(alloc: Global, body: &Value, key: &str) -> Result<ToldNames, DecodeError>
     ensures told { Decodes result (names_under key.now (view body.now)) }
     ensures few { IfOk result (λ names. length names ≤ 19) }
@@ -140,7 +144,7 @@ pub(crate) fn names(alloc: Global, body: &Value, key: &str) -> Result<ToldNames,
     }
 }
 
-/// What is true or false under a key.
+/// Returns what is true or false under a key.
 pub(crate) fn flag(body: &Value, key: &str) -> Result<bool, DecodeError>
     ensures { Tells result (flag_under key.now (view body.now)) }
 {
@@ -150,7 +154,8 @@ pub(crate) fn flag(body: &Value, key: &str) -> Result<bool, DecodeError>
     }
 }
 
-/// The bid under a key: a whole number from -20 to 20, written without a fraction and without an exponent. -0 is none.
+/// Returns the bid under a key: a whole number from -20 to 20, written without a fraction and without an exponent. -0
+/// is none.
 pub(crate) fn bid(body: &Value, key: &str) -> Result<Bid, DecodeError>
     ensures told { Tells result (bid_under key.now (view body.now)) }
     ensures high { IfOk result (λ bid. bid ≤ 40) }
@@ -162,7 +167,7 @@ pub(crate) fn bid(body: &Value, key: &str) -> Result<Bid, DecodeError>
     }
 }
 
-/// The score or the confidence under a key: a whole number from 1 to 5, written as a bid is.
+/// Returns the score or the confidence under a key: a whole number from 1 to 5, written as a bid is.
 pub(crate) fn grade(body: &Value, key: &str) -> Result<Grade, DecodeError>
     ensures told { Tells result (grade_under key.now (view body.now)) }
     ensures valid { IfOk result IsGrade }
@@ -174,7 +179,7 @@ pub(crate) fn grade(body: &Value, key: &str) -> Result<Grade, DecodeError>
     }
 }
 
-/// The phase whose word stands under a key.
+/// Returns the phase named under a key.
 pub(crate) fn phase(body: &Value, key: &str) -> Result<Phase, DecodeError>
     ensures { Tells result (phase_under key.now (view body.now)) }
 {
@@ -184,7 +189,7 @@ pub(crate) fn phase(body: &Value, key: &str) -> Result<Phase, DecodeError>
     }
 }
 
-/// The mode whose word stands under a key.
+/// Returns the mode named under a key.
 pub(crate) fn mode(body: &Value, key: &str) -> Result<Mode, DecodeError>
     ensures { Tells result (mode_under key.now (view body.now)) }
 {
@@ -194,7 +199,7 @@ pub(crate) fn mode(body: &Value, key: &str) -> Result<Mode, DecodeError>
     }
 }
 
-/// The kind of assignment whose word stands under a key.
+/// Returns the kind of assignment named under a key.
 pub(crate) fn kind(body: &Value, key: &str) -> Result<Kind, DecodeError>
     ensures { Tells result (kind_under key.now (view body.now)) }
 {
@@ -204,7 +209,7 @@ pub(crate) fn kind(body: &Value, key: &str) -> Result<Kind, DecodeError>
     }
 }
 
-/// The decision whose word stands under a key.
+/// Returns the decision named under a key.
 pub(crate) fn decision(body: &Value, key: &str) -> Result<Decision, DecodeError>
     ensures { Tells result (decision_under key.now (view body.now)) }
 {
@@ -214,7 +219,7 @@ pub(crate) fn decision(body: &Value, key: &str) -> Result<Decision, DecodeError>
     }
 }
 
-/// The role that somebody may be named to, member or chair, whose word stands under a key.
+/// Returns the role named under a key to which a user may be appointed: member or chair.
 pub(crate) fn role(body: &Value, key: &str) -> Result<Role, DecodeError>
     ensures told { Tells result (role_under key.now (view body.now)) }
     ensures member { IfOk result (λ role. IsTrue (is_member role)) }

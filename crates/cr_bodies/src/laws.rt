@@ -2,8 +2,8 @@
 ghost use Rattle.std.specs.Prelude.{◌≡◌, Some, None, codes};
 ghost use Rattle.cr_bodies.specs.Until.{deadline_in_text};
 
-/// Deadlines that texts tell: that of the example of RFC 9110, section 5.6.7, the same at an offset, the first and the
-/// last; and texts that tell none: the second before the first, the one behind the last, with half a second more, and
+/// Deadlines that texts tell: that of the example of RFC 9110, section 5.6.7, also written at an offset, the first and
+/// the last. Texts that tell none: the second before the first, the one after the last, with half a second more, and
 /// without an offset.
 #[tactic(auto, unfolding(jiff::proofs::OnLiterals::jiff_on_literals, crate::specs::Until::deadline_at))]
 pub fn law_deadlines_read()

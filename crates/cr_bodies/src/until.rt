@@ -12,7 +12,7 @@ use cr_base::{Deadline, DecodeError, Phase};
 use jiff::Timestamp;
 use serde_json::Value;
 
-/// The phase whose word stands under a key, where it may have a deadline: submission, bidding, reviewing or
+/// Returns the phase named under a key, if it may have a deadline: submission, bidding, reviewing, response or
 /// discussion.
 pub(crate) fn deadline_phase(body: &Value, key: &str) -> Result<Phase, DecodeError>
     ensures told { Tells result (deadline_phase_under key.now (view body.now)) }
@@ -26,7 +26,7 @@ pub(crate) fn deadline_phase(body: &Value, key: &str) -> Result<Phase, DecodeErr
     }
 }
 
-/// The deadline of an instant: None where it isn't of whole seconds, or no deadline has so many.
+/// Returns the deadline of an instant: `None` if it isn't of whole seconds, or no deadline has so many.
 fn deadline_at(instant: Timestamp) -> Option<Deadline>
     ensures { result ≡ deadline_of_nanos instant.nanosecond }
 {
@@ -39,8 +39,8 @@ fn deadline_at(instant: Timestamp) -> Option<Deadline>
     }
 }
 
-/// The deadline that a text tells, as `jiff` reads a timestamp (RFC 3339, with what RFC 9557 adds): None where it
-/// reads none, and where that is no deadline.
+/// Returns the deadline that a text tells, as `jiff` reads a timestamp (RFC 3339, with what RFC 9557 adds): `None` if
+/// it reads none, and where that is no deadline.
 fn parse_deadline(text: &str) -> Option<Deadline>
     ensures { result ≡ deadline_in_text text.now }
 {
@@ -50,7 +50,7 @@ fn parse_deadline(text: &str) -> Option<Deadline>
     }
 }
 
-/// The deadline under a key that must be there: None where null stands there, and else that of a text.
+/// Returns the deadline under a key that must be there: `None` for null, and else that of a text.
 pub(crate) fn until(body: &Value, key: &str) -> Result<Option<Deadline>, DecodeError>
     ensures told { Tells result (until_under key.now (view body.now)) }
     ensures valid { IfOk result IsDeadlineOrNone }

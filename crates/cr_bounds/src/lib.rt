@@ -1,7 +1,12 @@
-//! The most that a view shows: bounds of what the trigger table selects, and a response's own.
+//! The most that a view shows. `ShownTo` says who may know what of each entry, without a look at the visibility
+//! policy.
 //!
-//! The definitions stand in this crate's specs: who may know what of each entry, written without a look at the table
-//! (`ShownTo`), and what follows of whole views. The functions here do nothing: each has a law as its contract.
+//! # Proved
+//!
+//! - What a view shows, part by part, no more and no less: `law_bounds`.
+//!   [VIEWS.md](../../../docs/VIEWS.md#1-the-visibility-policy) has its clauses.
+//! - What authors are shown of others' forms [before the
+//!   notification](../../../docs/CLAIMS.md#what-a-view-shows-at-most): `law_response_bound`.
 #![tactic(auto)]
 
 ghost use Rattle.cr_bounds.specs.ViewBounds.{EntriesShown, MarksShown, MomentsShown, KeysShown, PapersShown};
@@ -19,24 +24,16 @@ ghost use Rattle.cr_bounds.specs.ViewBounds.{AccountsShown, StrangersShown, Nobo
 ghost use Rattle.cr_bounds.specs.ResponseBounds.{ReviewsAwaited, ReviewsForAuthors, OneReview, ReviewsBehindUnseen};
 ghost use Rattle.cr_bounds.specs.ResponseBounds.{UnheardForms, LaterForms};
 
-/// What a view shows, neither more nor less, of every history, legal or not, for every user and for nobody. The first
-/// clauses go part by part: a view has one sighting of each entry that the user is told of, and of each part exactly
-/// what she may know, by who wrote the paper, who is on the committee, who is declared in conflict, phase and mode;
-/// when an entry was made, and by a command of which number, its maker alone. The last say what that leaves: of bids
-/// and of who reviews a paper little, for all but the chairs in no conflict with it; of another's review nothing
-/// before the discussion, but for the paper's authors, to whom forms are shown from the notification on, or from the
-/// response where it was opened, and never what is for the committee; no comments and tags of others for authors; a
-/// response for its paper's authors and those who discuss the paper, and never who wrote it; who comments, in the
-/// anonymous mode, for such chairs alone; private tags for whoever sets them, and tags for chairs for such chairs; no
-/// decision before the notification for all but those who discuss the paper, and for all but them and its authors
-/// never more than that it is accepted; of a paper's titles, abstracts and contents the last one, for all but its
-/// authors, and of decisions for all but those who discuss it; little of a paper for outsiders, who neither wrote it
-/// nor are eligible for it nor read it as externals, so in conflict, or on no committee, or before the bidding; of a
-/// paper for its externals its last texts, content and, unless the mode is anonymous, authors, and never another's
-/// bid, comment, tag or form, nor who else reviews it; of all other papers for whoever is on no committee what is
-/// public, beside her own entries and those that name her; for strangers what is public and their own entries; and
-/// for nobody what is public, an accepted paper's title and authors among it, and once the conference is closed its
-/// abstract and its content.
+/// What a view shows, no more and no less.
+///
+/// The clauses up to `accepted` go part by part: a view has one line for each entry of which the user is told, and of
+/// each part exactly what `ShownTo` gives them, by the paper's authors, the committee, declared conflicts, phase and
+/// mode. An entry's timestamp and number are shown only to its actor.
+///
+/// The clauses from `own_bids` on say what that leaves. docs/VIEWS.md has the parts, and docs/CLAIMS.md the rest,
+/// clause by clause.
+///
+/// *Scope:* every history, legal or not; every user and an unauthenticated caller.
 pub fn law_bounds()
     ensures entries { EntriesShown }
     ensures marks { MarksShown }
@@ -94,12 +91,15 @@ pub fn law_bounds()
     ensures nobody { NobodyShown }
 {}
 
-/// What a paper's authors are shown of its reviews before the notification, of every history and in every mode:
-/// before a response phase is opened, and in the discussion of a conference that has skipped it, nothing; and then of
-/// each label at most one form, its score, its confidence and its text to the authors, and none that was written when
-/// the response had been opened. The last two clauses say what therefore looks the same to them: whatever stands in
-/// the forms that others wrote of their papers, but for the last of each label before the response; and whether there
-/// is one of those that were written behind it.
+/// What a paper's authors are shown of others' reviews before the notification.
+///
+/// - `awaited`: nothing until a response is opened.
+/// - `for_authors`, `one`, `behind`: then of each label at most one form, with only label, score, confidence and the
+///   text to authors; none that was written after the response was opened.
+/// - `unheard`, `later`: they see the same whatever is in others' forms on their papers, except the last of each label
+///   before the response; and with and without a form written after it was opened.
+///
+/// *Scope:* every history, in every mode.
 pub fn law_response_bound()
     ensures awaited { ReviewsAwaited }
     ensures for_authors { ReviewsForAuthors }

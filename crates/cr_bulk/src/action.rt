@@ -19,7 +19,11 @@ pub(crate) enum Action {
 }
 
 impl Action {
-    /// The action of a word; None where it is none. Takes no memory.
+    /// Returns the action of a word; `None` if it is none.
+    ///
+    /// # Cost
+    ///
+    /// Takes no memory.
     pub(crate) fn read(word: &[u8]) -> Option<Action>
         ensures { option_map seen result ≡ action_of word.now }
     {

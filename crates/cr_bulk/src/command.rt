@@ -6,7 +6,7 @@ ghost use Rattle.cr_bulk.specs.Actions.{command_or_rule, seen, tag_command};
 use crate::action::Action;
 use cr_base::{BulkRow, RowCommand, Rule, Tag, parse_name, parse_paper};
 
-/// The command of a row that turns a tag on or off.
+/// Returns the command of a row that turns a tag on or off.
 fn tag_command(row: &BulkRow, on: bool) -> Result<RowCommand, Rule>
     ensures { command_or_rule result ≡ tag_command row.now on }
 {
@@ -20,7 +20,7 @@ fn tag_command(row: &BulkRow, on: bool) -> Result<RowCommand, Rule>
     }
 }
 
-/// The command of a row with this action.
+/// Returns the command of a row with this action.
 fn command_by(action: Action, row: &BulkRow) -> Result<RowCommand, Rule>
     ensures { command_or_rule result ≡ command_by (seen action) row.now }
 {
@@ -44,9 +44,12 @@ fn command_by(action: Action, row: &BulkRow) -> Result<RowCommand, Rule>
     }
 }
 
-/// The command that a row tells, or why it tells none: `BadAction` where there is no such action, and `BadTag` where
-/// the action is one of tags and the column `tag` has none. The column that the action isn't about isn't read. One
-/// walk over at most 34 bytes of each column; takes no memory.
+/// Returns the command that a row tells, or why it tells none: `BadAction` if there is no such action, and `BadTag`
+/// where the action is one of tags and the column `tag` has none. The column that the action isn't about isn't read.
+///
+/// # Cost
+///
+/// One walk over at most 34 bytes of each column. Takes no memory.
 #[tactic(auto, unfolding(cr_base::specs::Bulk::row_command))]
 pub fn row_command(row: &BulkRow) -> Result<RowCommand, Rule>
     ensures { command_or_rule result ≡ row_command row.now }

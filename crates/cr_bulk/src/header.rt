@@ -8,7 +8,7 @@ use cr_base::{BulkRow, DecodeError};
 use csv::{ByteRecord, Reader};
 use std::alloc::Global;
 
-/// Whether these are the names of the columns.
+/// Returns whether these are the names of the columns.
 fn is_header(row: &BulkRow) -> bool
     ensures { result ≡ spec.is_header row.now }
 {

@@ -1,7 +1,12 @@
 //! Bulk assignment: the rows of a file, and the command that each tells.
 //!
-//! `specs/Rows.antt` says which rows a file spells, over the records that `csv` defines; which command a row
-//! tells stands in `Bulk` of cr_base.
+//! # Proved
+//!
+//! - Unless memory runs out, the rows read are those that the text spells. It is refused exactly if it spells none: it
+//!   isn't UTF-8, a record lacks four fields, the header is another, or there are more than 512 rows: `read_rows`
+//!   (`told`, `bounded`). What a record is, `csv` defines.
+//! - A row's command is exactly the defined one; it is `BadAction` or `BadTag` exactly if there is none:
+//!   `row_command`.
 #![tactic(auto)]
 
 mod action;

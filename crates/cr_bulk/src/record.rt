@@ -9,9 +9,9 @@ use cr_base::{Blob, BulkRow, DecodeError};
 use csv::{ByteRecord, Reader, ReaderBuilder};
 use std::alloc::{AllocError, Global};
 
-/// A reader over the records of a text, with the default settings of `csv`, but that the header is a record
-/// as the others are, and that records may differ in length: `row_of` looks at their length, so that an
-/// error is want of memory alone.
+/// Returns a reader over the records of a text, with the default settings of `csv`, except that the header is a record
+/// like the others, and that records may differ in length. `row_of` looks at their length, so an error is only lack of
+/// memory.
 pub(crate) fn reader_over(alloc: Global, text: &[u8]) -> Reader<&[u8]>
     ensures reading { IsReading result }
     ensures left { left_of result ≡ records_of text.now }
@@ -36,7 +36,7 @@ pub(crate) fn read_next(
     Ok(found)
 }
 
-/// A field of a record by its column, copied; empty where the record is shorter.
+/// Returns a field of a record by its column, copied; empty where the record is shorter.
 fn field(alloc: Global, fields: &ByteRecord, column: usize) -> Result<Blob, AllocError>
     ensures { IfOk result (λ blob. blob ≡ unwrap_or (field_at (fields_of fields.now) column) []) }
 {
@@ -46,7 +46,7 @@ fn field(alloc: Global, fields: &ByteRecord, column: usize) -> Result<Blob, Allo
     }
 }
 
-/// The row of a record: `Malformed` where it hasn't four fields.
+/// Returns the row of a record: `Malformed` where it hasn't four fields.
 pub(crate) fn row_of(alloc: Global, fields: &ByteRecord) -> Result<BulkRow, DecodeError>
     ensures { Decodes result (parse_row (fields_of fields.now)) }
 {

@@ -11,7 +11,11 @@ use cr_base::{BulkRow, BulkRows, DecodeError, MOST_ROWS, is_text};
 use csv::{ByteRecord, Reader};
 use std::alloc::Global;
 
-/// The rows behind the header: `Malformed` where a record hasn't four fields, or there are more than 512.
+/// Returns the rows after the header.
+///
+/// # Errors
+///
+/// `Malformed` if a record hasn't four fields, or there are more than 512.
 fn read_behind(alloc: Global, reader: &mut Reader<&[u8]>) -> Result<Vec<BulkRow>, DecodeError>
     requires { IsReading reader.old }
     ensures told { DecodesSeen (λ rows. rows.items) result (option_and_then if_few (rows_told (left_of reader.old))) }
@@ -33,7 +37,7 @@ fn read_behind(alloc: Global, reader: &mut Reader<&[u8]>) -> Result<Vec<BulkRow>
     Ok(rows)
 }
 
-/// The rows of a text under its header.
+/// Returns the rows of a text under its header.
 fn read_under(alloc: Global, text: &[u8]) -> Result<Vec<BulkRow>, DecodeError>
     ensures told { DecodesSeen (λ rows. rows.items) result (rows_under (records_of text.now)) }
     ensures few { IfOk result (λ rows. IsBoundedBulk rows.items) }
@@ -43,11 +47,15 @@ fn read_under(alloc: Global, text: &[u8]) -> Result<Vec<BulkRow>, DecodeError>
     read_behind(alloc, &mut reader)
 }
 
-/// The rows of a file, which is comma-separated values (RFC 4180) as `csv` reads them, under the header
-/// `paper,action,user,tag`: a mark of the byte order in front and empty lines don't count, and a line ends with LF,
-/// CR or both. `Malformed` comes exactly where it isn't UTF-8, a record hasn't four fields, the first isn't the
-/// header, or more than 512 follow, memory aside. Reads the file for its UTF-8, and then up to the record at which
-/// it turns out to be bad; each field is copied into a block of its own.
+/// Returns the rows of a file, which is comma-separated values (RFC 4180) as `csv` reads them, under the header
+/// `paper,action,user,tag`: a mark of the byte order in front and empty lines don't count, and a line ends with LF, CR
+/// or both. `Malformed` comes exactly if it isn't UTF-8, a record hasn't four fields, the first isn't the header, or
+/// more than 512 follow, memory aside.
+///
+/// # Cost
+///
+/// Reads the file for its UTF-8, and then up to the record at which it turns out to be bad; each field is copied into
+/// a block of its own.
 #[tactic(auto, unfolding(crate::specs::Rows::parse_rows))]
 pub fn read_rows(alloc: Global, bytes: &[u8]) -> Result<BulkRows, DecodeError>
     ensures told { Decodes result (parse_rows bytes.now) }

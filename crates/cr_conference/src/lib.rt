@@ -1,8 +1,13 @@
-//! A small conference, with the whole view of each of its readers, its twins, and what is tried on them.
+//! A small conference, whole: its histories, the view of each kind of reader, pairs that differ only in what a reader
+//! isn't shown.
 //!
-//! The definitions stand in this crate's specs: histories of the conference, what each reader sees of them, which of
-//! two broken rules is told, and pairs of histories that differ in what is hidden from somebody. The functions here do
-//! nothing: each has a law as its contract, proved by computing.
+//! # Proved
+//!
+//! - It is legal, whatever its chairs decide, and [what each reader
+//!   sees](../../../docs/CLAIMS.md#what-a-view-shows-at-most): `law_views`.
+//! - Which of two broken rules a refusal names: `law_first_told`.
+//! - Pairs of histories that [differ unseen](../../../docs/CLAIMS.md#what-may-differ-without-being-seen):
+//!   `law_hidden_pairs`.
 #![tactic(auto)]
 
 ghost use Rattle.cr_conference.specs.ConferenceLaws.{ConferenceLegal, ViewsBeforeBidding, ViewsInBidding};
@@ -27,27 +32,26 @@ ghost use Rattle.cr_conference.specs.HiddenPairs.{EarlyReviewerHidden, LateFormH
 ghost use Rattle.cr_conference.specs.HiddenPairs.{ResponseHiddenFromAccounts, ResponderHidden};
 ghost use Rattle.cr_conference.specs.FirstTold.{FirstTold};
 
-/// What each kind of reader sees of a small conference, entry by entry and all of it: nobody, an account, an external
-/// who reviews and was a member once, an author, a co-author, a member in no conflict, one who reviews, a chair who
-/// does, and a member and a chair in conflict, of three papers with every kind of entry but a response, in each mode,
-/// before the bidding, in it, in the reviewing, in the discussion, at the notification and at the close. A paper is
-/// rejected first and accepted then, one is rejected, and one is withdrawn; and where the two are decided the other
-/// way round, it is told what is seen at the close by who isn't on the committee. One submission has a number, which
-/// its maker alone is shown.
+/// All that each kind of reader sees of a small conference, entry by entry. The readers are an unauthenticated caller,
+/// an account, an external who reviews and was a member once, an author, a co-author, an unconflicted member, one who
+/// reviews, a chair who does, and a conflicted member and chair. It has three papers and every kind of entry except a
+/// response. The views are those in each mode: before the bidding, in it, in the reviewing, in the discussion, at the
+/// notification and at the close. One paper is rejected first and then accepted, one is rejected, one is withdrawn.
+/// With the two decisions the other way round, the views of those outside the committee at the close are there too
+/// (`reversed`). One submission has a number, which only its actor is shown.
 ///
-/// It has a twin, in which another member reviews a paper and writes its forms in the first one's place: what the
-/// paper's authors see of the two is the same, up to the discussion, and later but in the open mode; and so is what a
-/// member and a chair in conflict with the paper see, in all phases. Whatever a private tag, what a form tells the
-/// committee alone and a comment are, all four see the same in all phases.
-///
-/// Where it opens the response, and an author responds, what each reader sees is told as well: in it, in the
-/// discussion behind it, where a reviewer changes her form and another writes her first, and at the notification what
-/// nobody, an account and the two authors see. Up to the discussion its twin is the same for those four.
-///
-/// Whatever the chairs decide, nobody, accounts and authors see the same before the notification, and so do a member
-/// and a chair in conflict with a paper, whatever is decided of that one. From the notification on they all do where
-/// the same papers are accepted, and where authors have the same last decision on each paper of their own: no earlier
-/// decision is told them, and whether another's paper is rejected or undecided isn't either.
+/// - `twins`: with another member as the reviewer and the forms' author, the paper's authors see the same up to the
+///   discussion, and later except in the open mode. A conflicted member and chair see the same in all phases.
+/// - `asides`: these four see the same, in all phases, whatever a private tag, the text to the committee in a form,
+///   and a comment are.
+/// - `response`, `behind_response`, `told`, `responded_twins`: with a response, what each reader sees in it and in the
+///   discussion after it, where a reviewer changes a form and another writes the first; and at the notification what
+///   an unauthenticated caller, an account and the two authors see. Up to the discussion its twin is the same for
+///   those four.
+/// - `verdicts`: whatever the chairs decide, an unauthenticated caller, accounts and authors see the same before the
+///   notification; so do a conflicted member and chair, whatever is decided of that paper. From the notification on
+///   they all do if the same papers are accepted, and, for authors, if the last decisions on their own papers are the
+///   same.
 pub fn law_views()
     ensures legal { ConferenceLegal }
     ensures before { ViewsBeforeBidding }
@@ -66,27 +70,19 @@ pub fn law_views()
     ensures verdicts { VerdictsHidden }
 {}
 
-/// Which rule is told, where more than one is broken: for each two that stand next to one another in what a command, a
-/// query or a bulk asks, a case of the small conference or of its twins in which both are, and the first is told. All
-/// these histories are legal. There is no case of what the conference is too small for: 9,999 accounts or papers, 26
-/// labels of one paper, 1,000 comments, a plan that is too large; nor of two rules that can't be broken at once.
+/// Which rule a refusal names, if several are broken. For each two neighbouring rules of a command's, a query's or a
+/// bulk's list, a case of the small conference or of its twins breaks both, and the first is named. All these
+/// histories are legal. There is no case of what the conference is too small for (9,999 accounts or papers, 26 labels
+/// of one paper, 1,000 comments, a plan that is too large), nor of two rules that can't be broken at once.
 pub fn law_first_told()
     ensures { FirstTold }
 {}
 
-/// For each kind of entry, and each part of it that is hidden from some, two legal histories that differ there and
-/// meet the conditions of [`law_hidden_payload`] for one user, who sees the same of both, while another user doesn't:
-/// the digest of a registration; who named a member, and who set a mode, a phase or a deadline, when, and by a
-/// command of which number; a paper's title and abstract, and in the anonymous mode its authors; a revision's texts
-/// and an upload's content, where others follow, and who made them; who withdrew; whom an author declares in
-/// conflict, whether a chair turns that off, and which author declared; a bid and whose it is; whether a private tag
-/// is on and whose it is; who is assigned, as what and by whom, and who is unassigned and by whom; who dismissed a
-/// member; who is invited and by whom, whose invitation is taken back and by whom, and to who is invited who else
-/// reviews, a bid, whether a tag is on, and a comment and who wrote it; a form before it is read, what it tells the
-/// committee alone, and in the anonymous mode who wrote it; of a form that authors respond to the same, in the open
-/// mode too, and all of one behind it; a response, and which author wrote it; a comment and who wrote it; and a
-/// decision and who made it. The last two clauses are of [`law_removed`]: a comment, and the last version of a
-/// content, whose place another takes.
+/// For each kind of entry, and each part of it that is hidden from some user, two legal histories that differ in that
+/// part. They meet the conditions of `law_hidden_payload` of cr_policy for one user, who sees the same of both, while
+/// another user doesn't. The last two clauses are of `law_removed`: a comment, and the last version of a content,
+/// whose place another takes. docs/CLAIMS.md says of each clause what differs, for whom it looks alike, and for whom
+/// not.
 pub fn law_hidden_pairs()
     ensures digests { DigestHidden }
     ensures namers { NamerHidden }

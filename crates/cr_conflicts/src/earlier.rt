@@ -6,7 +6,7 @@ ghost use Rattle.cr_base.specs.Lists.{is_number, last_or};
 
 use cr_base::{Entry, PaperNo, Stamped, UserNo};
 
-/// Whether the entry makes the user an author of the paper.
+/// Returns whether the entry makes the user an author of the paper.
 fn gives_author(stamped: &Stamped, user: UserNo, paper: PaperNo) -> bool
     ensures { result ≡ list_any (is_number (Some user)) (author_told paper stamped.now.stamp.maker stamped.now.entry) }
 {
@@ -22,7 +22,11 @@ fn gives_author(stamped: &Stamped, user: UserNo, paper: PaperNo) -> bool
     }
 }
 
-/// Whether one of the entries makes the user an author of the paper. A walk over them.
+/// Returns whether one of the entries makes the user an author of the paper.
+///
+/// # Cost
+///
+/// A walk over them.
 pub(crate) fn give_author(earlier: &[Stamped], user: UserNo, paper: PaperNo) -> bool
     ensures { result
         ≡ list_any (λ e. list_any (is_number (Some user)) (author_told paper e.stamp.maker e.entry)) earlier.now }
@@ -32,7 +36,7 @@ pub(crate) fn give_author(earlier: &[Stamped], user: UserNo, paper: PaperNo) -> 
         .any(|stamped| gives_author(stamped, user, paper))
 }
 
-/// Whether the user is declared in conflict with the paper after the entry, where `on` says so of before.
+/// Returns whether the user is declared in conflict with the paper after the entry, where `on` says so of before.
 fn declared_after(on: bool, stamped: &Stamped, user: UserNo, paper: PaperNo) -> bool
     ensures { result ≡ last_or on (conflict_told (Some user) paper stamped.now.entry) }
 {
@@ -46,7 +50,11 @@ fn declared_after(on: bool, stamped: &Stamped, user: UserNo, paper: PaperNo) -> 
     }
 }
 
-/// The same after all of the entries. A walk over them.
+/// Returns whether the user is in declared conflict with the paper after all of the entries.
+///
+/// # Cost
+///
+/// A walk over them.
 pub(crate) fn declared_behind(on: bool, earlier: &[Stamped], user: UserNo, paper: PaperNo) -> bool
     ensures { result ≡ fold (λ b e. last_or b (conflict_told (Some user) paper e.entry)) on earlier.now }
 {

@@ -5,7 +5,7 @@ ghost use Rattle.cr_base.specs.Checks.{other_checks, on_checks, off_checks};
 
 use cr_base::{Rule, Standing, Target};
 
-/// A clear member bids on a paper that is there, in the bidding, until it is too late.
+/// Checks whether an unconflicted member may bid on a paper that is there: in the bidding, until it is too late.
 pub(crate) fn bid(by: &Standing, withdrawn: bool, late: bool) -> Result<(), Rule>
     ensures { result ≡ judged (bid_checks by.now (record { there = true; withdrawn = withdrawn }) late) tt }
 {
@@ -25,7 +25,7 @@ pub(crate) fn bid(by: &Standing, withdrawn: bool, late: bool) -> Result<(), Rule
     Ok(())
 }
 
-/// In setup and submission: an author declares a member, until it is too late.
+/// Checks whether an author may declare the target, in setup and submission: a member, until it is too late.
 fn declared(by: &Standing, withdrawn: bool, target: &Target, late: bool) -> Result<(), Rule>
     ensures { result ≡ judged (declare_checks by.now withdrawn target.now late) tt }
 {
@@ -44,7 +44,7 @@ fn declared(by: &Standing, withdrawn: bool, target: &Target, late: bool) -> Resu
     Ok(())
 }
 
-/// From bidding to discussion: a member declares herself.
+/// Checks whether a member may declare themselves, from bidding to discussion.
 fn own(by: &Standing, withdrawn: bool) -> Result<(), Rule>
     ensures { result ≡ judged (own_checks by.now withdrawn) tt }
 {
@@ -57,7 +57,8 @@ fn own(by: &Standing, withdrawn: bool) -> Result<(), Rule>
     Ok(())
 }
 
-/// From bidding to discussion: a clear chair declares another member, or an external of the paper.
+/// Checks whether an unconflicted chair may declare another member or an external of the paper, from bidding to
+/// discussion.
 fn other(by: &Standing, withdrawn: bool, target: &Target) -> Result<(), Rule>
     ensures { result ≡ judged (other_checks by.now withdrawn target.now) tt }
 {
@@ -76,7 +77,7 @@ fn other(by: &Standing, withdrawn: bool, target: &Target) -> Result<(), Rule>
     Ok(())
 }
 
-/// On: by the phase, and whether the caller names herself.
+/// Checks whether the conflict may be turned on, by the phase, and by whether the caller names themselves.
 pub(crate) fn on(by: &Standing, withdrawn: bool, target: &Target, late: bool) -> Result<(), Rule>
     ensures { result ≡ judged (on_checks by.now withdrawn target.now late) tt }
 {
@@ -92,7 +93,8 @@ pub(crate) fn on(by: &Standing, withdrawn: bool, target: &Target, late: bool) ->
     other(by, withdrawn, target)
 }
 
-/// Off: a clear chair, of a member or an external of the paper who is no author of it.
+/// Checks whether an unconflicted chair may turn it off, of a member or an external of the paper who is no author of
+/// it.
 pub(crate) fn off(by: &Standing, withdrawn: bool, target: &Target) -> Result<(), Rule>
     ensures { result ≡ judged (off_checks by.now withdrawn target.now) tt }
 {

@@ -26,11 +26,13 @@ use std::alloc::{AllocError, Global};
 use std::marker::Model;
 use std::sync::ledger::Ledger;
 
-/// Who is an author of which paper, who is declared in conflict with it, whom its authors named so, and who
-/// has bid on it.
+/// Who is an author of which paper, who is declared in conflict with it, whom its authors declared so, and who has bid
+/// on it.
 ///
-/// Contracts see these by paper, and for how many more of each paper and of each user there is room. Authors and
-/// conflicts are found by user too; that these agree is true of every table.
+/// # Model
+///
+/// These by paper, and for how many more of each paper and of each user there is room. Authors and conflicts are found
+/// by user too, and every table has equal ones there.
 #[derive(Drop)]
 pub struct Ties {
     alloc: Global,
@@ -75,7 +77,7 @@ impl Model for Ties {
         t.declared.order t.bids.order × AreOwn (λ tie. tie.pair.paper) t.authors.files };
 }
 
-/// A paper and a user who are tied.
+/// Returns a paper and a user who are tied.
 fn bare(paper: PaperNo, user: UserNo) -> Tie<()>
     ensures { result ≡ bare_tie paper user }
 {
@@ -85,7 +87,7 @@ fn bare(paper: PaperNo, user: UserNo) -> Tie<()>
     }
 }
 
-/// A paper and a user who bids so on it.
+/// Returns a paper and a user who bids so on it.
 fn bid_by(paper: PaperNo, user: UserNo, value: Bid) -> Tie<Bid>
     ensures { result ≡ bid_tie paper user value }
 {
@@ -95,7 +97,11 @@ fn bid_by(paper: PaperNo, user: UserNo, value: Bid) -> Tie<Bid>
     }
 }
 
-/// The pair is there from now on, or no longer; takes no memory.
+/// Puts the pair in, or takes it out.
+///
+/// # Cost
+///
+/// Takes no memory.
 fn switch(ties: &mut IndexedPairs<()>, paper: PaperNo, user: UserNo, on: bool)
     requires paper { 0 < slice_index ties.old.by_paper_rooms paper }
     requires user { 0 < slice_index ties.old.by_user_rooms user }
@@ -111,7 +117,11 @@ fn switch(ties: &mut IndexedPairs<()>, paper: PaperNo, user: UserNo, on: bool)
     }
 }
 
-/// The tie is there from now on, where it is told; takes no memory.
+/// Puts the tie in, if it is told.
+///
+/// # Cost
+///
+/// Takes no memory.
 fn insert_where(ties: &mut PairRows<()>, told: bool, tie: Tie<()>)
     requires { 0 < slice_index ties.old.rooms (major ties.old.order tie.pair) }
     ensures order { ties.new.order ≡ ties.old.order }
@@ -125,7 +135,11 @@ fn insert_where(ties: &mut PairRows<()>, told: bool, tie: Tie<()>)
 
 /// What is read.
 impl Ties {
-    /// No papers; takes no memory.
+    /// Creates one without papers.
+    ///
+    /// # Cost
+    ///
+    /// Takes no memory.
     pub fn new(alloc: Global) -> Ties
         ensures { result.ties ≡ no_ties }
     {
@@ -139,8 +153,12 @@ impl Ties {
         }
     }
 
-    /// The authors of the paper, the submitter first and the others in the order in which they were
-    /// told; none where there is no such paper. Found by number; a step for each. Takes no memory.
+    /// Returns the authors of the paper, the submitter first and the others in the order in which they were told; none
+    /// if there is no such paper.
+    ///
+    /// # Cost
+    ///
+    /// Found by number; a step for each. Takes no memory.
     pub fn authors<L: Ledger>(&self, paper: PaperNo, steps: &mut Steps<L>) -> &[Tie<()>]
         ensures value { map (λ t. t.pair.user) result.now ≡ authors_in self.now.ties paper }
         ensures steps { Takes (length (authors_in self.now.ties paper)) steps.old steps.new }
@@ -148,8 +166,11 @@ impl Ties {
         self.authors.of_paper(paper, steps)
     }
 
-    /// Whether the user is an author of the paper; false where there is no such paper. Found by number, and a
-    /// walk over the paper's authors; a step for each of them.
+    /// Returns whether the user is an author of the paper; false if there is no such paper.
+    ///
+    /// # Cost
+    ///
+    /// Found by number, and a walk over the paper's authors; a step for each of them.
     pub fn is_author<L: Ledger>(&self, user: UserNo, paper: PaperNo, steps: &mut Steps<L>) -> bool
         ensures value { result ≡ is_author_in self.now.ties (Some user) paper }
         ensures steps { Takes (length (authors_in self.now.ties paper)) steps.old steps.new }
@@ -160,8 +181,12 @@ impl Ties {
             .any(|author| user.number() == author.number())
     }
 
-    /// The same behind earlier entries of the same command. Found by number, a step for each of the paper's
-    /// authors, and a walk over the entries, of which there are none but in a command of many parts.
+    /// Returns whether the user is an author of the paper after earlier entries of the same command.
+    ///
+    /// # Cost
+    ///
+    /// Found by number, a step for each of the paper's authors, and a walk over the entries, which only a command of
+    /// many parts has.
     fn is_author_behind<L: Ledger>(
         &self,
         user: UserNo,
@@ -175,8 +200,11 @@ impl Ties {
         self.is_author(user, paper, steps) || give_author(earlier, user, paper)
     }
 
-    /// Whether the user is declared in conflict with the paper; false where there is no such paper. The paper's
-    /// conflicts are found by number; a step for each of them at which the binary search looks.
+    /// Returns whether the user is declared in conflict with the paper; false if there is no such paper.
+    ///
+    /// # Cost
+    ///
+    /// The paper's conflicts are found by number; a step for each of them at which the binary search looks.
     pub fn is_declared<L: Ledger>(&self, user: UserNo, paper: PaperNo, steps: &mut Steps<L>) -> bool
         ensures value { result ≡ is_conflict_on_in self.now.ties (Some user) paper }
         ensures steps { Halves (length (users_tied_to paper self.now.ties.conflicts)) steps.old steps.new }
@@ -184,7 +212,11 @@ impl Ties {
         self.conflicts.contains(&Pair { paper, user }, steps)
     }
 
-    /// The same behind earlier entries of the same command. As many steps, and a walk over the entries.
+    /// Returns whether the user is in declared conflict with the paper after earlier entries of the same command.
+    ///
+    /// # Cost
+    ///
+    /// The steps of `is_declared`, and a walk over the entries.
     fn is_declared_behind<L: Ledger>(
         &self,
         user: UserNo,
@@ -199,10 +231,13 @@ impl Ties {
         declared_behind(on, earlier, user, paper)
     }
 
-    /// Whether the user is in conflict with the paper, as an author or declared so, behind earlier
-    /// entries of the same command, whatever these are. Two reads by number, at most a step for each of the
-    /// paper's authors and of its conflicts, and a walk over the entries, of which there are none but in a command
-    /// of many parts.
+    /// Returns whether the user is in conflict with the paper, as an author or declared so, after any earlier entries
+    /// of the same command.
+    ///
+    /// # Cost
+    ///
+    /// Two reads by number, at most a step for each of the paper's authors and of its conflicts, and a walk over the
+    /// entries, which only a command of many parts has.
     pub fn is_conflicted<L: Ledger>(
         &self,
         user: UserNo,
@@ -220,8 +255,11 @@ impl Ties {
         self.is_declared_behind(user, paper, earlier, steps)
     }
 
-    /// Who is declared in conflict with the paper, in the order of user numbers. Found by number; a step for
-    /// each. Takes no memory.
+    /// Returns who is declared in conflict with the paper, in the order of user numbers.
+    ///
+    /// # Cost
+    ///
+    /// Found by number; a step for each. Takes no memory.
     pub fn conflicts<L: Ledger>(&self, paper: PaperNo, steps: &mut Steps<L>) -> &[Tie<()>]
         ensures value { map (λ t. t.pair.user) result.now ≡ users_tied_to paper self.now.ties.conflicts }
         ensures steps { Takes (length (users_tied_to paper self.now.ties.conflicts)) steps.old steps.new }
@@ -229,8 +267,11 @@ impl Ties {
         self.conflicts.of_paper(paper, steps)
     }
 
-    /// Whom the paper's authors named in a conflict with it, in the order of user numbers. Found by number; a
-    /// step for each. Takes no memory.
+    /// Returns the users that the paper's authors declared in conflict with it, in the order of user numbers.
+    ///
+    /// # Cost
+    ///
+    /// Found by number; a step for each. Takes no memory.
     pub fn declared<L: Ledger>(&self, paper: PaperNo, steps: &mut Steps<L>) -> &[Tie<()>]
         ensures value { map (λ t. t.pair.user) result.now ≡ users_tied_to paper self.now.ties.declared }
         ensures steps { Takes (length (users_tied_to paper self.now.ties.declared)) steps.old steps.new }
@@ -238,8 +279,11 @@ impl Ties {
         self.declared.of(paper.number(), steps)
     }
 
-    /// The papers whose author the user is, in the order of their numbers. Found by number; a step for each.
-    /// Takes no memory.
+    /// Returns the papers whose author the user is, in the order of their numbers.
+    ///
+    /// # Cost
+    ///
+    /// Found by number; a step for each. Takes no memory.
     pub fn authored<L: Ledger>(&self, user: UserNo, steps: &mut Steps<L>) -> &[Tie<()>]
         ensures papers { map (λ t. t.pair.paper) result.now ≡ papers_tied_to user self.now.ties.authors }
         ensures rising { IsRising (papers_tied_to user self.now.ties.authors) }
@@ -248,8 +292,11 @@ impl Ties {
         self.authored.of(user.number(), steps)
     }
 
-    /// The papers with which the user is declared in conflict, in the order of their numbers. Found by number; a
-    /// step for each. Takes no memory.
+    /// Returns the papers with which the user is declared in conflict, in the order of their numbers.
+    ///
+    /// # Cost
+    ///
+    /// Found by number; a step for each. Takes no memory.
     pub fn conflicting<L: Ledger>(&self, user: UserNo, steps: &mut Steps<L>) -> &[Tie<()>]
         ensures papers { map (λ t. t.pair.paper) result.now ≡ papers_tied_to user self.now.ties.conflicts }
         ensures rising { IsRising (papers_tied_to user self.now.ties.conflicts) }
@@ -258,8 +305,11 @@ impl Ties {
         self.conflicts.of_user(user, steps)
     }
 
-    /// The user's last bid on the paper, and none where she has told none. The paper's bids are found by number; a
-    /// step for each of them at which the binary search looks.
+    /// Returns the user's last bid on the paper, or `None` if the caller has told none.
+    ///
+    /// # Cost
+    ///
+    /// The paper's bids are found by number; a step for each of them at which the binary search looks.
     pub fn bid_of<L: Ledger>(
         &self,
         user: UserNo,
@@ -272,7 +322,11 @@ impl Ties {
         self.bids.value(&Pair { paper, user }, steps)
     }
 
-    /// The last bids on the paper, in the order of user numbers. Found by number; a step for each. Takes no memory.
+    /// Returns the last bids on the paper, in the order of user numbers.
+    ///
+    /// # Cost
+    ///
+    /// Found by number; a step for each. Takes no memory.
     pub fn bids<L: Ledger>(&self, paper: PaperNo, steps: &mut Steps<L>) -> &[Tie<Bid>]
         ensures value { map (λ t. record { user = t.pair.user; value = t.value }) result.now
             ≡ bids_in self.now.ties paper }
@@ -281,13 +335,18 @@ impl Ties {
         self.bids.of(paper.number(), steps)
     }
 
-    /// Whether the caller may bid on this paper, or the first broken rule. `by` is her standing at the
-    /// paper; `paper` is none where there is no such paper. Whether it is withdrawn stands in none of
-    /// the ties, and no rule asks of her bids. `late` is what `Stage::is_late` says at the request's moment. Takes
-    /// no search.
+    /// Checks whether the caller may bid on this paper. `by` is the caller's standing at the paper; `paper` is none if
+    /// there is no such paper. Whether it is withdrawn is in none of the ties, and no rule asks of their bids. `late`
+    /// is what `Stage::is_late` says at the request's moment.
     ///
-    /// In this order: `NoPaper`, `NotMember`, `Conflict`, `WrongPhase` where it isn't the bidding, `Late`
-    /// where it is too late, `Withdrawn`.
+    /// # Errors
+    ///
+    /// The first broken rule, in this order: `NoPaper`, `NotMember`, `Conflict`, `WrongPhase` if it isn't the bidding,
+    /// `Late` if it is too late, `Withdrawn`.
+    ///
+    /// # Cost
+    ///
+    /// Takes no search.
     pub fn judge_bid(
         &self,
         by: &Standing,
@@ -304,19 +363,26 @@ impl Ties {
         judging::bid(by, withdrawn, late)
     }
 
-    /// Whether the caller may turn this user's conflict with this paper on or off, or the first broken
-    /// rule, behind earlier entries of the same command, whatever these are. `by` is her standing at
-    /// the paper, `maker` her number; `paper` is none where there is no such paper, `target` none where
-    /// there is no such user. `external` is whether the target is an external of the paper, and `withdrawn` whether the
-    /// paper is withdrawn: neither stands in the ties. `late` is what `Stage::is_late` says at the request's moment. A
-    /// walk over the paper's authors, a binary search among its conflicts, and two walks over the earlier entries, of
-    /// which there are none but in a command of many parts.
+    /// Checks whether the caller may turn this user's conflict with this paper on or off, after any earlier entries of
+    /// the same command. `by` is the caller's standing at the paper, `maker` their number; `paper` is none if there is
+    /// no such paper, `target` none if there is no such user. `external` is whether the target is an external of the
+    /// paper, and `withdrawn` whether the paper is withdrawn: neither is in the ties. `late` is what `Stage::is_late`
+    /// says at the request's moment.
     ///
-    /// First come `NoPaper` and `NoUser`. On, before the bidding: `NotAuthor`, `Late` where it is too late,
-    /// `Withdrawn`, `NotAMember`; from the bidding to the discussion, of herself: `NotMember`, `Withdrawn`,
-    /// of another: `NotChair`, `Conflict` where she is in conflict with the paper herself, `Withdrawn`,
-    /// `NotAMember`; later: `WrongPhase`. Off: `NotChair`, `Conflict`, `WrongPhase`, `Withdrawn`, `NotAMember`,
-    /// `AuthorConflict`.
+    /// # Errors
+    ///
+    /// The first broken rule. First come `NoPaper` and `NoUser`.
+    ///
+    /// - On, before the bidding: `NotAuthor`, `Late` if it is too late, `Withdrawn`, `NotAMember`.
+    /// - On, from the bidding to the discussion, of the caller: `NotMember`, `Withdrawn`; of another: `NotChair`,
+    ///   `Conflict` if the caller is in conflict with the paper, `Withdrawn`, `NotAMember`.
+    /// - On, later: `WrongPhase`.
+    /// - Off: `NotChair`, `Conflict`, `WrongPhase`, `Withdrawn`, `NotAMember`, `AuthorConflict`.
+    ///
+    /// # Cost
+    ///
+    /// A walk over the paper's authors, a binary search among its conflicts, and two walks over the earlier entries,
+    /// which only a command of many parts has.
     pub fn judge_conflict(
         &self,
         by: &Standing,
@@ -359,8 +425,15 @@ impl Ties {
 
 /// What entries make of it.
 impl Ties {
-    /// Takes the memory that the entries of one command need; an error only for lack of memory, and
-    /// the ties are the same either way. Each entry is compared with those of its kind before it.
+    /// Takes the memory that the entries of one command need. The ties don't change.
+    ///
+    /// # Errors
+    ///
+    /// If memory runs out.
+    ///
+    /// # Cost
+    ///
+    /// Each entry is compared with those of its kind before it.
     pub fn room(&mut self, group: &[Stamped]) -> Result<(), AllocError>
         ensures ok { OnOk result (TiesHaveRoom group.now self.new.rooms) }
         ensures same { self.new.ties ≡ self.old.ties }
@@ -377,8 +450,11 @@ impl Ties {
         self.bids.room(&bids)
     }
 
-    /// One more author, who comes behind all that were told before; takes no memory. Two reads by number, and a
-    /// binary search among the papers whose author she is.
+    /// Adds an author, after all that were told before.
+    ///
+    /// # Cost
+    ///
+    /// Two reads by number, and a binary search among the user's papers. Takes no memory.
     fn add_author(&mut self, paper: PaperNo, user: UserNo)
         requires room { 0 < slice_index self.old.rooms.authors paper }
         requires room_by_user { 0 < slice_index self.old.rooms.authored user }
@@ -395,11 +471,14 @@ impl Ties {
         self.authored.insert(bare(paper, user));
     }
 
-    /// One more entry, for which there is room; takes no memory. The paper that it adds comes behind
-    /// all that have authors, and a co-author's is the last of these, of which she is no author yet. A
-    /// submission, a co-author or a bid costs two reads by number and a binary search among the paper's or the
-    /// user's ties, a conflict a walk over the paper's authors and three of each at most, and each a move of those
-    /// ties behind the index, of 4 to 6 bytes.
+    /// Applies one more entry, for which there is room. A paper that it adds comes after all that have authors, and a
+    /// co-author's is the last of these, of which the user is no author yet.
+    ///
+    /// # Cost
+    ///
+    /// Takes no memory. A submission, a co-author or a bid costs two reads by number and a binary search among the
+    /// paper's or the user's ties, a conflict a walk over the paper's authors and three of each at most; each moves
+    /// those ties after the index, of 4 to 6 bytes.
     pub fn apply(&mut self, stamped: &Stamped)
         requires room { TiesHaveRoom (stamped.now ∷ []) self.old.rooms }
         requires fits { TiesFit self.old.ties stamped.now.entry }

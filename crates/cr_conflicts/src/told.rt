@@ -6,7 +6,7 @@ ghost use Rattle.cr_conflicts.specs.Room.{authored_pair, conflict_pair, bid_pair
 use cr_base::{Entry, Pair, Stamped};
 use std::alloc::{AllocError, Global};
 
-/// The paper and the user whom the entry makes its author, where it does.
+/// Returns the paper and the user that the entry makes its author, if it does.
 fn authored_pair(stamped: &Stamped) -> Option<Pair>
     ensures { result ≡ authored_pair stamped.now }
 {
@@ -23,7 +23,7 @@ fn authored_pair(stamped: &Stamped) -> Option<Pair>
     }
 }
 
-/// The paper and the user whose conflict with it the entry turns on or off, where it does.
+/// Returns the paper and the user whose conflict with it the entry turns on or off, if it does.
 fn conflict_pair(stamped: &Stamped) -> Option<Pair>
     ensures { result ≡ conflict_pair stamped.now }
 {
@@ -36,7 +36,7 @@ fn conflict_pair(stamped: &Stamped) -> Option<Pair>
     }
 }
 
-/// The paper and the user who bids on it by the entry, where she does.
+/// Returns the paper and the user who bids on it by the entry, if the caller does.
 fn bid_pair(stamped: &Stamped) -> Option<Pair>
     ensures { result ≡ bid_pair stamped.now }
 {
@@ -49,8 +49,15 @@ fn bid_pair(stamped: &Stamped) -> Option<Pair>
     }
 }
 
-/// The authors whom the entries make, in their order. A walk over them; an error only for lack of memory, and no
-/// memory is taken where there are none.
+/// Returns the authors that the entries make, in their order.
+///
+/// # Errors
+///
+/// If memory runs out.
+///
+/// # Cost
+///
+/// A walk over them. Takes no memory if there are none.
 pub(crate) fn authored_pairs(alloc: Global, group: &[Stamped]) -> Result<Vec<Pair>, AllocError>
     ensures { IfOk result (λ pairs. pairs.items ≡ filter_map authored_pair group.now) }
 {
@@ -60,7 +67,15 @@ pub(crate) fn authored_pairs(alloc: Global, group: &[Stamped]) -> Result<Vec<Pai
         .collect(alloc)
 }
 
-/// The conflicts that the entries turn on or off, in the same way.
+/// Returns the conflicts that the entries turn on or off, in their order.
+///
+/// # Errors
+///
+/// If memory runs out.
+///
+/// # Cost
+///
+/// A walk over them. Takes no memory if there are none.
 pub(crate) fn conflict_pairs(alloc: Global, group: &[Stamped]) -> Result<Vec<Pair>, AllocError>
     ensures { IfOk result (λ pairs. pairs.items ≡ filter_map conflict_pair group.now) }
 {
@@ -70,7 +85,15 @@ pub(crate) fn conflict_pairs(alloc: Global, group: &[Stamped]) -> Result<Vec<Pai
         .collect(alloc)
 }
 
-/// The bids that the entries tell, in the same way.
+/// Returns the bids that the entries tell, in their order.
+///
+/// # Errors
+///
+/// If memory runs out.
+///
+/// # Cost
+///
+/// A walk over them. Takes no memory if there are none.
 pub(crate) fn bid_pairs(alloc: Global, group: &[Stamped]) -> Result<Vec<Pair>, AllocError>
     ensures { IfOk result (λ pairs. pairs.items ≡ filter_map bid_pair group.now) }
 {

@@ -16,7 +16,9 @@ use std::sync::ledger::Ledger;
 
 /// What was decided of papers: all decisions on each, in the order in which they came. The last one counts.
 ///
-/// Contracts see the decisions paper by paper, and for how many more on each there is room.
+/// # Model
+///
+/// The decisions paper by paper, and for how many more on each there is room.
 #[derive(Drop)]
 pub struct Decisions {
     alloc: Global,
@@ -33,7 +35,11 @@ impl Model for Decisions {
 
 /// What is read.
 impl Decisions {
-    /// No decisions; takes no memory.
+    /// Creates one without decisions.
+    ///
+    /// # Cost
+    ///
+    /// Takes no memory.
     pub fn new(alloc: Global) -> Decisions
         ensures { result.decisions ≡ no_decisions }
     {
@@ -43,8 +49,11 @@ impl Decisions {
         }
     }
 
-    /// The last decision on the paper, and none where there is none or no such paper. Found by number; a step
-    /// where there is one. Takes no memory.
+    /// Returns the last decision on the paper, or `None` if there is none or no such paper.
+    ///
+    /// # Cost
+    ///
+    /// Found by number; a step where there is one. Takes no memory.
     pub fn last<L: Ledger>(&self, paper: PaperNo, steps: &mut Steps<L>) -> Option<Decision>
         ensures value { result ≡ decision_in self.now.decisions paper }
         ensures steps { TakesAtMost 1 steps.old steps.new }
@@ -53,12 +62,18 @@ impl Decisions {
         self.decisions.last(paper, steps).copied()
     }
 
-    /// Whether the caller may decide on this paper, or the first broken rule. `by` is her standing at the paper;
-    /// `paper` is none where there is no such paper. Whether it is withdrawn stands in none of the decisions, and
-    /// no rule asks what was decided before. Takes no search and no memory.
+    /// Checks whether the caller may decide on this paper. `by` is the caller's standing at the paper; `paper` is none
+    /// if there is no such paper. Whether it is withdrawn is in none of the decisions, and no rule asks what was
+    /// decided before.
     ///
-    /// In this order: `NoPaper`, `NotChair`, `Conflict` where she is in conflict with the paper, `WrongPhase`
-    /// where it isn't the discussion, `Withdrawn`.
+    /// # Errors
+    ///
+    /// The first broken rule, in this order: `NoPaper`, `NotChair`, `Conflict` if the caller is in conflict with the
+    /// paper, `WrongPhase` if it isn't the discussion, `Withdrawn`.
+    ///
+    /// # Cost
+    ///
+    /// Takes no search and no memory.
     pub fn judge_decide(
         &self,
         by: &Standing,
@@ -89,8 +104,15 @@ impl Decisions {
 
 /// What entries make of it.
 impl Decisions {
-    /// Takes the memory that the entries of one command need; an error only for lack of memory, and the
-    /// decisions are the same either way. Each paper on which they decide is compared with those before it.
+    /// Takes the memory that the entries of one command need. The decisions don't change.
+    ///
+    /// # Errors
+    ///
+    /// If memory runs out.
+    ///
+    /// # Cost
+    ///
+    /// Each paper on which they decide is compared with those before it.
     pub fn room(&mut self, group: &[Stamped]) -> Result<(), AllocError>
         ensures ok { OnOk result (DecisionsHaveRoom group.now self.new.rooms) }
         ensures same { self.new.decisions ≡ self.old.decisions }
@@ -100,8 +122,11 @@ impl Decisions {
         self.decisions.room(&papers)
     }
 
-    /// One more entry, for which there is room; takes no memory. A decision costs one read by number, and moves
-    /// none of the others.
+    /// Applies one more entry, for which there is room.
+    ///
+    /// # Cost
+    ///
+    /// A decision costs one read by number, and moves none of the others. Takes no memory.
     pub fn apply(&mut self, stamped: &Stamped)
         requires { DecisionsHaveRoom (stamped.now ∷ []) self.old.rooms }
         ensures after { self.new.decisions ≡ decisions_after self.old.decisions stamped.now.entry }
@@ -115,7 +140,7 @@ impl Decisions {
     }
 }
 
-/// The paper on which the entry decides, if it does.
+/// Returns the paper on which the entry decides, if it does.
 fn paper_decided(stamped: &Stamped) -> Option<PaperNo>
     ensures { result ≡ paper_decided stamped.now }
 {
@@ -125,7 +150,7 @@ fn paper_decided(stamped: &Stamped) -> Option<PaperNo>
     }
 }
 
-/// The papers on which the entries decide, as often as they do.
+/// Returns the papers on which the entries decide, as often as they do.
 fn papers_decided(alloc: Global, group: &[Stamped]) -> Result<Vec<PaperNo>, AllocError>
     ensures { IfOk result (λ papers. papers.items ≡ filter_map paper_decided group.now) }
 {

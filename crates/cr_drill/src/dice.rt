@@ -16,7 +16,7 @@ const MODULUS: u64 = 2_147_483_648;
 /// By what a draw divides, which leaves out the lower 16 bits.
 const DIVISOR: u64 = 65_536;
 
-/// A generator of numbers. The same seed gives the same numbers.
+/// A generator of numbers: equal seeds give equal numbers.
 #[derive(Clone, Copy)]
 pub struct Dice {
     /// What the next draw begins with.
@@ -26,18 +26,18 @@ pub struct Dice {
 /// What one step draws.
 #[derive(Clone, Copy)]
 pub struct Roll {
-    /// Who acts, unless a chair does in her place: one of the eight.
+    /// The user who acts, unless a chair does in their place: one of the eight.
     pub user: UserNo,
     /// Which of the four operations of the phase, from 0 to 3.
     pub operation: u64,
     /// On which paper; 1 where there is none.
     pub paper: PaperNo,
-    /// Whom it is about, and what number it tells: one of the eight.
+    /// The user concerned, and the number told: one of the eight.
     pub other: UserNo,
 }
 
 impl Dice {
-    /// The next number, from 0 to 32,767.
+    /// Returns the next number, from 0 to 32,767.
     #[tactic(auto, unfolding(crate::specs::Dice::turned, crate::specs::Dice::drawn))]
     fn draw(&mut self) -> u64
         requires { self.old.seed ≤ 4294967295 }
@@ -49,7 +49,7 @@ impl Dice {
         self.seed / DIVISOR
     }
 
-    /// The four numbers of a step, where there are so many papers.
+    /// Returns the four numbers of a step, if there are so many papers.
     #[tactic(auto, unfolding(crate::specs::Dice::roll_of, crate::specs::Dice::after_roll))]
     pub(crate) fn roll(&mut self, papers: u64) -> Roll
         requires seed { self.old.seed ≤ 4294967295 }

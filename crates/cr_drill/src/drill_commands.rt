@@ -39,7 +39,7 @@ pub enum Operation {
     Decide,
 }
 
-/// The name of one of the eight: `u` and the number's digit.
+/// Returns the name of one of the eight: `u` and the number's digit.
 pub(crate) fn cast_name(user: UserNo) -> Short
     requires { user ≤ 8 }
     ensures { result ≡ cast_name user }
@@ -47,7 +47,7 @@ pub(crate) fn cast_name(user: UserNo) -> Short
     Short::from_slice([b'u', b'0' + user.number() as u8].as_slice())
 }
 
-/// The digest of the secret of one of the eight: her name and `-secret-000001`.
+/// Returns the digest of the secret of one of the eight: their name and `-secret-000001`.
 #[tactic(auto, unfolding(crate::specs::Cast::cast_digest))]
 pub(crate) fn cast_digest(user: UserNo) -> cr_base::Digest
     requires { user ≤ 8 }
@@ -58,7 +58,7 @@ pub(crate) fn cast_digest(user: UserNo) -> cr_base::Digest
     Sha256::digest(secret.as_slice())
 }
 
-/// The operation of a number from 0 to 3 in a phase.
+/// Returns the operation of a number from 0 to 3 in a phase.
 pub(crate) fn operation_in(phase: Phase, number: u64) -> Operation
     ensures { result ≡ operation_in phase number }
 {
@@ -79,7 +79,7 @@ pub(crate) fn operation_in(phase: Phase, number: u64) -> Operation
 }
 
 impl Operation {
-    /// Whether a chair does it in place of the user drawn.
+    /// Returns whether a chair does it in place of the user drawn.
     fn is_chairs(self) -> bool
         ensures { result ≡ is_chairs self }
     {
@@ -96,28 +96,28 @@ impl Operation {
     }
 }
 
-/// Whether a user's number is even.
+/// Returns whether a user's number is even.
 fn is_even(user: UserNo) -> bool
     ensures { result ≡ is_even user }
 {
     user.number() % 2 == 0
 }
 
-/// Who names the others and moves the conference on.
+/// Returns who names the others and moves the conference on.
 pub(crate) fn first_chair() -> UserNo
     ensures { result ≡ first_chair }
 {
     UserNo::new(1)
 }
 
-/// The other chair.
+/// Returns the other chair.
 fn second_chair() -> UserNo
     ensures { result ≡ second_chair }
 {
     UserNo::new(2)
 }
 
-/// The chair who acts in place of a user.
+/// Returns the chair who acts in place of a user.
 fn chair_for(user: UserNo) -> UserNo
     ensures { result ≡ chair_for user }
 {
@@ -128,7 +128,7 @@ fn chair_for(user: UserNo) -> UserNo
     }
 }
 
-/// Who takes an operation where this user is drawn: one of the eight.
+/// Returns who takes an operation where this user is drawn: one of the eight.
 pub(crate) fn actor_of(operation: Operation, user: UserNo) -> UserNo
     ensures { result ≡ actor_of operation user }
 {
@@ -139,7 +139,11 @@ pub(crate) fn actor_of(operation: Operation, user: UserNo) -> UserNo
     }
 }
 
-/// A submission's title, `T` and the number of its step; an error only for lack of memory.
+/// Returns a submission's title, `T` and the number of its step.
+///
+/// # Errors
+///
+/// If memory runs out.
 fn step_title(alloc: Global, step: u64) -> Result<Text, AllocError>
     ensures { IfOk result (λ title. title ≡ step_title step) }
 {
@@ -150,7 +154,11 @@ fn step_title(alloc: Global, step: u64) -> Result<Text, AllocError>
     Text::from_str(alloc, title.as_str())
 }
 
-/// A submission without abstract and co-authors; an error only for lack of memory.
+/// Returns a submission without abstract and co-authors.
+///
+/// # Errors
+///
+/// If memory runs out.
 fn submission_at(alloc: Global, step: u64) -> Result<Command, AllocError>
     ensures { IfOk result (λ command. command ≡ submission_at step) }
 {
@@ -163,7 +171,11 @@ fn submission_at(alloc: Global, step: u64) -> Result<Command, AllocError>
     })
 }
 
-/// A review that says little; an error only for lack of memory.
+/// Returns a review that says little.
+///
+/// # Errors
+///
+/// If memory runs out.
 fn form_of(alloc: Global, other: UserNo) -> Result<Form, AllocError>
     ensures { IfOk result (λ form. form ≡ form_of other) }
 {
@@ -177,7 +189,7 @@ fn form_of(alloc: Global, other: UserNo) -> Result<Form, AllocError>
     })
 }
 
-/// What is decided where this user is drawn.
+/// Returns what is decided where this user is drawn.
 fn decision_of(other: UserNo) -> Decision
     ensures { result ≡ decision_of other }
 {
@@ -188,7 +200,7 @@ fn decision_of(other: UserNo) -> Decision
     }
 }
 
-/// The bid that is her number less 4.
+/// Returns the bid that is their number less 4.
 fn bid_of(other: UserNo) -> Bid
     requires { other ≤ 8 }
     ensures { result ≡ 16 + other }
@@ -199,7 +211,7 @@ fn bid_of(other: UserNo) -> Bid
     }
 }
 
-/// The one tag of a drill.
+/// Returns the one tag of a drill.
 fn hot() -> Tag
     ensures { result ≡ codes "hot" }
 {
@@ -209,7 +221,11 @@ fn hot() -> Tag
     }
 }
 
-/// The command of an operation, by the number of its step and what was drawn; an error only for lack of memory.
+/// Returns the command of an operation, by the number of its step and what was drawn.
+///
+/// # Errors
+///
+/// If memory runs out.
 pub(crate) fn command_of(
     alloc: Global,
     operation: Operation,

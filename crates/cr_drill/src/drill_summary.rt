@@ -39,7 +39,11 @@ const EVERY_KIND: [EntryKind; 22] = [
     EntryKind::Responded,
 ];
 
-/// Appends a piece; an error only for lack of memory.
+/// Appends a piece.
+///
+/// # Errors
+///
+/// If memory runs out.
 fn append(text: &mut Vec<u8>, piece: &[u8]) -> Result<(), AllocError>
     ensures { OnOk result (text.new.items ≡ text.old.items ++ piece.now) }
 {
@@ -47,7 +51,11 @@ fn append(text: &mut Vec<u8>, piece: &[u8]) -> Result<(), AllocError>
     Ok(())
 }
 
-/// Appends a word and a number; an error only for lack of memory.
+/// Appends a word and a number.
+///
+/// # Errors
+///
+/// If memory runs out.
 fn append_counted(text: &mut Vec<u8>, word: &[u8], number: u64) -> Result<(), AllocError>
     ensures { OnOk result (text.new.items ≡ text.old.items ++ counted word.now number) }
 {
@@ -100,7 +108,7 @@ fn append_kinds(text: &mut Vec<u8>, book: &Book<PlainKeeper>) -> Result<(), Allo
     append(text, b"\n")
 }
 
-/// The users of a drill.
+/// Returns the users of a drill.
 fn cast() -> [UserNo; 8]
     ensures { result ≡ cast }
 {
@@ -116,7 +124,7 @@ fn cast() -> [UserNo; 8]
     ]
 }
 
-/// Appends how many sightings a user's view has.
+/// Appends how many lines a user's view has.
 fn append_view_count(
     text: &mut Vec<u8>,
     book: &Book<PlainKeeper>,
@@ -129,7 +137,7 @@ fn append_view_count(
     append_counted(text, b" ", sightings)
 }
 
-/// Appends how many sightings the view of each of these users has.
+/// Appends how many lines the view of each of these users has.
 fn append_view_counts(
     text: &mut Vec<u8>,
     book: &Book<PlainKeeper>,
@@ -153,8 +161,15 @@ fn append_views(text: &mut Vec<u8>, book: &Book<PlainKeeper>) -> Result<(), Allo
     append(text, b"\n")
 }
 
-/// The four lines; an error only for lack of memory. Costs a walk over the history for
-/// each kind, and two for each user.
+/// Returns the four lines.
+///
+/// # Errors
+///
+/// If memory runs out.
+///
+/// # Cost
+///
+/// A walk over the history for each kind, and two for each user.
 #[tactic(auto, unfolding(crate::specs::Drill::summary))]
 pub(crate) fn summary(
     alloc: Global,

@@ -52,8 +52,11 @@ pub(crate) struct Progress {
     pub(crate) refused: u64,
 }
 
-/// Gives a command without a number at the first moment, and tells whether it was accepted; an error only for lack of
-/// memory.
+/// Gives a command without a number at the first moment, and tells whether it was accepted.
+///
+/// # Errors
+///
+/// If memory runs out.
 fn ask(
     book: &mut Book<PlainKeeper>,
     caller: Option<UserNo>,
@@ -74,7 +77,11 @@ fn ask(
     }
 }
 
-/// Gives a command of one of the cast, and tells whether it was accepted; an error only for lack of memory.
+/// Gives a command of one of the cast, and tells whether it was accepted.
+///
+/// # Errors
+///
+/// If memory runs out.
 #[tactic(auto, using(crate::proofs::DrillCast::cast_kept))]
 fn ask_as(book: &mut Book<PlainKeeper>, user: UserNo, command: Command) -> Result<bool, AllocError>
     requires cast { HasCast book.old.log }
@@ -88,7 +95,7 @@ fn ask_as(book: &mut Book<PlainKeeper>, user: UserNo, command: Command) -> Resul
     ask(book, Some(user), command)
 }
 
-/// What everyone may know of the conference.
+/// Returns what everyone may know of the conference.
 fn conference(book: &Book<PlainKeeper>) -> Conference
     requires { Legal book.now.log }
     ensures phase { result.phase ≡ phase_of book.now.log }
@@ -101,7 +108,7 @@ fn conference(book: &Book<PlainKeeper>) -> Conference
     }
 }
 
-/// Whether the conference has yet to reach a phase on its way to the one that is wanted.
+/// Returns whether the conference has yet to reach a phase on its way to the one that is wanted.
 fn is_on_way(book: &Book<PlainKeeper>, wanted: Phase, phase: Phase) -> bool
     requires { Legal book.now.log }
     ensures { result ≡ is_on_way wanted book.now.log phase }
@@ -109,7 +116,11 @@ fn is_on_way(book: &Book<PlainKeeper>, wanted: Phase, phase: Phase) -> bool
     !conference(book).phase.is_from(phase) && wanted.is_from(phase)
 }
 
-/// Sets a phase; an error only for lack of memory.
+/// Sets a phase.
+///
+/// # Errors
+///
+/// If memory runs out.
 fn set_phase(book: &mut Book<PlainKeeper>, phase: Phase) -> Result<(), AllocError>
     requires { HasCast book.old.log }
     ensures set { OnOk result (book.new.log ≡ step book.old.log (drill_call (Some first_chair) (SetPhase phase))) }
@@ -119,7 +130,11 @@ fn set_phase(book: &mut Book<PlainKeeper>, phase: Phase) -> Result<(), AllocErro
     Ok(())
 }
 
-/// Moves the conference on to a phase that it has yet to reach; an error only for lack of memory.
+/// Moves the conference on to a phase that it has yet to reach.
+///
+/// # Errors
+///
+/// If memory runs out.
 fn move_on(book: &mut Book<PlainKeeper>, wanted: Phase, phase: Phase) -> Result<(), AllocError>
     requires { HasCast book.old.log }
     ensures moved { OnOk result (book.new.log ≡ moved_on wanted book.old.log phase) }
@@ -131,7 +146,11 @@ fn move_on(book: &mut Book<PlainKeeper>, wanted: Phase, phase: Phase) -> Result<
     Ok(())
 }
 
-/// Moves the conference on through these phases; an error only for lack of memory.
+/// Moves the conference on through these phases.
+///
+/// # Errors
+///
+/// If memory runs out.
 fn move_through(
     book: &mut Book<PlainKeeper>,
     wanted: Phase,
@@ -147,7 +166,11 @@ fn move_through(
     Ok(())
 }
 
-/// Moves the conference on to the phase that is wanted; an error only for lack of memory.
+/// Moves the conference on to the phase that is wanted.
+///
+/// # Errors
+///
+/// If memory runs out.
 #[tactic(auto, unfolding(crate::specs::Drill::moved_to))]
 fn move_to(book: &mut Book<PlainKeeper>, wanted: Phase) -> Result<(), AllocError>
     requires { HasCast book.old.log }
@@ -157,7 +180,11 @@ fn move_to(book: &mut Book<PlainKeeper>, wanted: Phase) -> Result<(), AllocError
     move_through(book, wanted, LATER_PHASES.as_slice())
 }
 
-/// Registers the cast; an error only for lack of memory.
+/// Registers the cast.
+///
+/// # Errors
+///
+/// If memory runs out.
 #[tactic(auto, unfolding(crate::specs::Drill::all_registered))]
 fn register_all(book: &mut Book<PlainKeeper>) -> Result<(), AllocError>
     requires { book.old.log ≡ [] }
@@ -175,7 +202,11 @@ fn register_all(book: &mut Book<PlainKeeper>) -> Result<(), AllocError>
     Ok(())
 }
 
-/// Names one of the cast; an error only for lack of memory.
+/// Appoints one of the cast.
+///
+/// # Errors
+///
+/// If memory runs out.
 fn name(book: &mut Book<PlainKeeper>, number: u64, role: Role) -> Result<(), AllocError>
     requires cast { HasCast book.old.log }
     requires among { (1 ≤ number) × (number ≤ 8) }
@@ -191,7 +222,11 @@ fn name(book: &mut Book<PlainKeeper>, number: u64, role: Role) -> Result<(), All
     Ok(())
 }
 
-/// Names the committee; an error only for lack of memory.
+/// Appoints the committee.
+///
+/// # Errors
+///
+/// If memory runs out.
 fn name_all(book: &mut Book<PlainKeeper>) -> Result<(), AllocError>
     requires { HasCast book.old.log }
     ensures named { OnOk result (book.new.log ≡ members_named member_count (named Chair second_chair book.old.log)) }
@@ -204,7 +239,11 @@ fn name_all(book: &mut Book<PlainKeeper>) -> Result<(), AllocError>
     Ok(())
 }
 
-/// Does what comes before the steps; an error only for lack of memory.
+/// Does what comes before the steps.
+///
+/// # Errors
+///
+/// If memory runs out.
 #[tactic(auto, unfolding(crate::specs::Drill::opened))]
 fn open(book: &mut Book<PlainKeeper>) -> Result<(), AllocError>
     requires { book.old.log ≡ [] }
@@ -216,7 +255,7 @@ fn open(book: &mut Book<PlainKeeper>) -> Result<(), AllocError>
     move_to(book, Phase::Submission)
 }
 
-/// The phase of a quarter of a drill, from 0.
+/// Returns the phase of a quarter of a drill, from 0.
 fn phase_in_quarter(number: u64) -> Phase
     ensures { result ≡ phase_in_quarter number }
 {
@@ -228,7 +267,7 @@ fn phase_in_quarter(number: u64) -> Phase
     }
 }
 
-/// The phase of a step.
+/// Returns the phase of a step.
 #[tactic(auto, unfolding(crate::specs::Drill::phase_at))]
 fn phase_at(steps: u64, step: u64) -> Phase
     requires some { 1 ≤ steps }
@@ -256,7 +295,11 @@ impl Progress {
     }
 }
 
-/// Takes a step in a phase; an error only for lack of memory.
+/// Takes a step in a phase.
+///
+/// # Errors
+///
+/// If memory runs out.
 fn take_step(
     alloc: Global,
     book: &mut Book<PlainKeeper>,
@@ -283,7 +326,11 @@ fn take_step(
     Ok(())
 }
 
-/// Takes so many steps from a seed; an error only for lack of memory.
+/// Takes so many steps from a seed.
+///
+/// # Errors
+///
+/// If memory runs out.
 fn take_steps(
     alloc: Global,
     book: &mut Book<PlainKeeper>,
@@ -308,7 +355,11 @@ fn take_steps(
     Ok(progress)
 }
 
-/// Makes a drill on an empty book, and gives its summary; an error only for lack of memory.
+/// Makes a drill on an empty book, and gives its summary.
+///
+/// # Errors
+///
+/// If memory runs out.
 #[tactic(auto, unfolding(crate::specs::Drill::drilled))]
 fn run_on(
     alloc: Global,
@@ -327,10 +378,18 @@ fn run_on(
     summary(alloc, book, steps, progress)
 }
 
-/// Makes up commands from a seed, gives them to a book in memory, and tells what they come to: how many steps there
+/// Makes up commands from a seed, gives them to a book in memory, and returns what they come to: how many steps there
 /// were, how many of them were accepted and refused, how many entries there are, of each kind, and in the view of each
-/// user. The same seed gives the same bytes. Each step costs one command and a few look-ups; the summary costs a walk
-/// over the history for each kind and two for each user. An error only for lack of memory.
+/// user. Equal arguments give equal bytes.
+///
+/// # Errors
+///
+/// If memory runs out.
+///
+/// # Cost
+///
+/// Each step costs one command and a few look-ups; the summary costs a walk over the history for each kind and two for
+/// each user.
 pub fn run_drill(alloc: Global, seed: u64, steps: u64) -> Result<Vec<u8>, AllocError>
     requires seed { seed ≤ 4294967295 }
     requires steps { (1 ≤ steps) × (steps ≤ 100000) }

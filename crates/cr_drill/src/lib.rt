@@ -1,8 +1,14 @@
-//! A drill: commands that are made up from a seed, given to a book in memory, and what they come to.
+//! A drill: commands made up from a seed, given to a book in memory, and the four lines that say what they come to.
+//! `Dice` and `Cast` in specs say which commands are made up, `Drill` what their history and summary are.
 //!
-//! `Dice` draws the numbers, `Operation` names what a step may do; `run_drill` makes the drill and gives its summary,
-//! four lines. The definitions stand in specs/: `Dice` and `Cast` say which commands are made up, `Drill` to which
-//! history they lead by the rules alone, and what its summary is.
+//! # Proved
+//!
+//! - Unless memory runs out, the [summary](../../../docs/API.md#appendix-drills) is that of the history to which the
+//!   defined commands of the seed lead: `run_drill` (`drilled`, `summary`).
+//!
+//! # Tested
+//!
+//! - The same commands given to a reference model: `checks/drills.py`.
 #![tactic(auto)]
 
 mod dice;

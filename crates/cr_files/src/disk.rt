@@ -20,7 +20,9 @@ const AGAIN: u32 = 16;
 /// A file of the system, as a disk that doesn't tell its bytes. After a sync that failed each write and each sync
 /// fails: what the system then shows of the file may not be on the disk, and a second sync may succeed all the same.
 ///
-/// Contracts see the count of faults.
+/// # Model
+///
+/// The fault counter.
 #[derive(Drop)]
 pub struct FileDisk {
     file: File,
@@ -37,7 +39,7 @@ impl Model for FileDisk {
     ghost view = { λ d. d.faults };
 }
 
-/// One read of the file, again where a signal broke it off.
+/// Reads once from the file, retrying if a signal interrupts.
 fn read_on(file: &File, at: u64, buf: &mut [u8]) -> io::Result<usize>
     ensures size { ReadsAtMost result buf.new }
     ensures length { length buf.new ≡ length buf.old }
@@ -52,7 +54,7 @@ fn read_on(file: &File, at: u64, buf: &mut [u8]) -> io::Result<usize>
 }
 
 impl FileDisk {
-    /// A disk over an open file, with no fault counted.
+    /// Returns a disk over an open file, with no fault counted.
     pub(crate) fn new(file: File) -> Self
         ensures { result ≡ 0 }
     {
@@ -64,17 +66,17 @@ impl FileDisk {
         }
     }
 
-    /// What the last fault was; none where no call has failed.
+    /// Returns what the last fault was; `None` if no call has failed.
     pub fn reason(&self) -> Option<Reason> {
         self.reason
     }
 
-    /// Whether a sync has failed, so that no further write is taken.
+    /// Returns whether a sync has failed, so that no further write is taken.
     pub fn is_over(&self) -> bool {
         self.is_over
     }
 
-    /// Cuts the file to nothing, and syncs that where it can be. Whether it was cut.
+    /// Cuts the file to nothing, and syncs that where it can be. Returns whether it was cut.
     pub(crate) fn cut(&self) -> bool {
         let is_cut = self.file.set_len(0).is_ok();
         let _ = self.file.sync_all();

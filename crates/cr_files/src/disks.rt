@@ -12,12 +12,14 @@ use std::os::fd::AsRawFd;
 use std::os::unix::fs::OpenOptionsExt;
 use std::rt::HostRuntime;
 
-/// The mode of a file that is made: its owner alone reads and writes it.
+/// The mode of a new file: only its owner reads and writes it.
 const OWNERS_ALONE: u32 = 0o600;
 
 /// Opens files as disks. While one is open, no other process can open it so.
 ///
-/// Contracts see the count of faults.
+/// # Model
+///
+/// The fault counter.
 #[derive(Drop)]
 pub struct FileDisks {
     rt: HostRuntime,
@@ -33,7 +35,7 @@ impl Model for FileDisks {
     ghost view = { λ d. d.faults };
 }
 
-/// Makes the file for its owner alone, where it is missing.
+/// Makes the file, only for its owner, if it is missing.
 fn make_missing(rt: &HostRuntime, path: &str) -> Result<(), Reason> {
     match OpenOptions::new()
         .write(true)
@@ -47,7 +49,7 @@ fn make_missing(rt: &HostRuntime, path: &str) -> Result<(), Reason> {
     }
 }
 
-/// Syncs the folder in which a file stands, so that its name lasts.
+/// Syncs the folder of a file, so that its name lasts.
 fn sync_folder(rt: &HostRuntime, path: &str) -> Result<(), Reason> {
     let folder = match path.rsplit_once('/') {
         Some(("", _)) => "/",
@@ -87,8 +89,8 @@ fn settle(file: &File) -> io::Result<()> {
     Ok(())
 }
 
-/// Opens a file and holds it for this process, with all that it has on the disk, and its name too, whoever made it, or
-/// put it there: an earlier process may have been stopped, or refused, ahead of that.
+/// Opens a file and holds it for this process, with all that it has on the disk, and its name too, a user who made it,
+/// or put it there: an earlier process may have been stopped, or refused, ahead of that.
 fn open_held(rt: &HostRuntime, path: &str) -> Result<File, Reason> {
     let file = open_or_make(rt, path)?;
     match file.try_lock() {
@@ -102,7 +104,7 @@ fn open_held(rt: &HostRuntime, path: &str) -> Result<File, Reason> {
 }
 
 impl FileDisks {
-    /// Files of the system, with no fault counted. None is opened yet.
+    /// Creates disks over files of the system, with no fault counted. None is opened yet.
     pub fn new(rt: &HostRuntime) -> Self
         ensures { result ≡ 0 }
     {
@@ -113,8 +115,8 @@ impl FileDisks {
         }
     }
 
-    /// Why the last file that wasn't opened wasn't, or what the last fault of a disk was that was shut later; none
-    /// where nothing has failed.
+    /// Returns why the last file that wasn't opened wasn't, or the last fault of a disk that was shut later; `None` if
+    /// nothing has failed.
     pub fn reason(&self) -> Option<Reason> {
         self.reason
     }
@@ -133,7 +135,7 @@ impl Disks for FileDisks {
 
     ghost faults = { λ d. d };
 
-    /// Makes the file where it is missing, for its owner alone. File and folder are synced, and reads give what the disk
+    /// Makes the file if it is missing, only for its owner. File and folder are synced, and reads give what the disk
     /// has.
     fn open(&mut self, path: &str) -> Result<FileDisk, KeeperError> {
         match open_held(&self.rt, path) {

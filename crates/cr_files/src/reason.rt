@@ -8,7 +8,7 @@ pub enum Reason {
     System(io::Error),
     /// Another process has the file open.
     Busy,
-    /// What stands at the path is no file.
+    /// What is at the path is no file.
     NoFile,
     /// It is longer than a disk may be, or would become so.
     TooLong,

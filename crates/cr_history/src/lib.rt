@@ -1,8 +1,20 @@
-//! What a history tells, on which the tables agree with it, and what is kept as it grows: all that is so of histories
-//! whatever anybody sees of them.
+//! The facts of a history: what the tables keep of it, and what stays true as it grows, whatever its users see.
 //!
-//! The definitions stand in this crate's specs: the invariants of legal histories, and what an accepted command may
-//! add to one by the rules. The functions here do nothing: each has a law as its contract.
+//! # Proved
+//!
+//! - If each entry fits in its turn, and co-authors come before any conflict with their paper, the tables have the
+//!   facts of the history that its comment lists: `law_tables`.
+//! - If the history keeps the invariants, they also have which forms the committee discusses, to which of a label
+//!   authors respond, and which are a user's own: `law_forms`.
+//! - The empty history keeps the invariants, and each group that the rules let a command add preserves them; so does
+//!   the entry of a bulk's row that fits the tables. What a command adds is never cut off: `law_growth` (`first`,
+//!   `more`, `whole`). `law_legal` of cr_policy proves that accepted commands and bulks add such groups.
+//! - The tables keep at most as many records of a paper as any history has entries on it: `law_records` (`kept`,
+//!   `declared`). Its comment says which records count.
+//!
+//! # Assumed
+//!
+//! - The invariants are all that one would want.
 #![tactic(auto)]
 
 ghost use Rattle.std.specs.Prelude.{ℕ, ◌≤◌};
@@ -11,38 +23,43 @@ ghost use Rattle.cr_base.specs.Tables.{tables_of};
 ghost use Rattle.cr_history.specs.Laws.{TablesTell, FormsTell, GrowthKeeps};
 ghost use Rattle.cr_history.specs.Records.{entries_on, records_on, records_declared};
 
-/// The tables tell what the history tells, where each entry fits in its turn and a paper's co-authors are told
-/// before any conflict with it: how any user stands to the conference and to any paper; the accounts with their
-/// roles, who has a name, and who has it with a digest; the papers with their titles, abstracts, authors and
-/// uploads, and which are withdrawn;
-/// how many of the papers, and how many uploaded bytes, are a user's own; whose conflict with a paper is on, and whom
-/// its authors declared; each user's last bid on it; its reviewers, under which ordinal a user reviews it, and how
-/// many labels were given, and to whom; the forms under each label; the comments on a paper, and how many a user has
-/// written; what a paper's authors responded; its tags; the last decision on it, and which papers are accepted; until
-/// when what a phase opens may be done, and whether the response was opened.
+/// The tables have the facts of the history.
+///
+/// - Of a user: phase, mode, role and relations to any paper; own papers and uploaded bytes.
+/// - Accounts with their roles; who has a name, and who has it with a digest.
+/// - Papers with titles, abstracts, authors and uploads; which are withdrawn, and which accepted.
+/// - Conflicts, and those that authors declared; each user's last bid.
+/// - Reviewers, the ordinal under which each reviews, how many labels were given and to which users; the forms under
+///   each label.
+/// - Comments, and how many each user has written; responses; tags; last decisions; deadlines; whether the response
+///   was opened.
+///
+/// *Scope:* histories of which each entry fits in its turn, and co-authors come before any conflict with their paper.
 pub fn law_tables()
     ensures { TablesTell }
 {}
 
 /// The tables tell which forms of a label the committee discusses, to which one authors respond, and which forms of a
-/// paper a user has written, where the history keeps the invariants: phases only go on, and whoever has written a form
-/// stays a reviewer under its label.
+/// paper a user has written.
+///
+/// *Scope:* histories that keep the invariants: phases only go on, and a user who has written a form stays a reviewer
+/// under its label.
 pub fn law_forms()
     ensures { FormsTell }
 {}
 
-/// The empty history keeps the invariants; and so does a history that keeps them with a group behind it that the rules
-/// let a command add, or with an entry that they let the row of a bulk add, its texts within their bounds, and that
-/// fits the tables in its turn. What a command adds is never cut off.
+/// The empty history keeps the invariants (`first`). A history that keeps them does so with a group that the rules let
+/// a command add, and with an entry that they let a bulk's row add, if its texts are within their bounds and it fits
+/// the tables in its turn (`more`). What a command adds is never cut off (`whole`).
 pub fn law_growth()
     ensures { GrowthKeeps }
 {}
 
-/// The tables keep no more records of a paper than any history has entries on it: its authors, the conflicts with it
-/// that are on, its seats, who is invited to review it, the last bids on it, its forms, its uploads and its tags, all
-/// together (the rows of a paper in HotCRP's schema). So it is too with whom its authors declared in the place of the
-/// conflicts that are on. Whatever reads each of these once reads no more of them than there are entries on this paper,
-/// however many there are on others. Comments aren't among them, nor is the response.
+/// The tables keep at most as many records of a paper as any history has entries on it. Counted together are its
+/// authors, the conflicts with it that are on, its seats, invitations, last bids, forms, uploads and tags (`kept`; the
+/// rows of a paper in HotCRP's schema), or in place of the conflicts those that authors declared (`declared`). So code
+/// that reads each of these once reads no more of them than there are entries on this paper, however many there are on
+/// others. Comments and the response aren't counted.
 pub fn law_records()
     ensures kept { (p : ℕ) (H : History) → records_on p (tables_of H) ≤ entries_on p H }
     ensures declared { (p : ℕ) (H : History) → records_declared p (tables_of H) ≤ entries_on p H }

@@ -15,7 +15,11 @@ pub(crate) enum BodyMemory<'b> {
     Block(&'b Blob),
 }
 
-/// The body of a request, lent: at most 4,194,304 bytes. Contracts see the list of its bytes.
+/// The body of a request, lent: at most 4,194,304 bytes.
+///
+/// # Model
+///
+/// The list of its bytes.
 #[derive(Drop)]
 pub struct Body<'b> {
     memory: BodyMemory<'b>,
@@ -33,7 +37,7 @@ impl<'b> Model for Body<'b> {
 }
 
 impl<'b> Body<'b> {
-    /// The body that these bytes are, at most 4,194,304.
+    /// Returns the body that these bytes are, at most 4,194,304.
     pub fn lent(bytes: &'b [u8]) -> Body<'b>
         requires { IsBody bytes.now }
         ensures { result ≡ bytes.now }
@@ -43,7 +47,7 @@ impl<'b> Body<'b> {
         }
     }
 
-    /// The body that lies in this block: at most 4,194,304 bytes.
+    /// Returns the body that lies in this block: at most 4,194,304 bytes.
     pub fn block(bytes: &'b Blob) -> Body<'b>
         requires { IsBody bytes.now }
         ensures { result ≡ bytes.now }
@@ -53,7 +57,7 @@ impl<'b> Body<'b> {
         }
     }
 
-    /// The bytes, at most 4,194,304.
+    /// Returns the bytes, at most 4,194,304.
     pub fn as_slice(&self) -> &[u8]
         ensures value { result.now ≡ self.now }
         ensures short { IsBody self.now }
@@ -64,8 +68,16 @@ impl<'b> Body<'b> {
         }
     }
 
-    /// The bytes to be kept, at most 4,194,304. A body that lies in a block of its own shares it, at a cost that
-    /// is the same whatever its length; another is copied into one. An error only for lack of memory.
+    /// Returns the bytes to be kept, at most 4,194,304. A body in a block of its own shares it; another is copied into
+    /// one.
+    ///
+    /// # Errors
+    ///
+    /// If memory runs out.
+    ///
+    /// # Cost
+    ///
+    /// For a body in a block of its own it doesn't depend on the length.
     pub fn to_blob(&self, alloc: Global) -> Result<Blob, AllocError>
         ensures value { IfOk result (λ blob. blob ≡ self.now) }
         ensures short { IsBody self.now }

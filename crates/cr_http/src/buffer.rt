@@ -30,8 +30,8 @@ pub enum Fill {
     OutOfMemory,
 }
 
-/// Bytes that were read and not yet used: those from `start` to `end` of the block. Reads go
-/// straight into the block behind them, and what is used is dropped by moving `start`.
+/// Bytes that were read and not yet used: those from `start` to `end` of the block. Reads go straight into the block
+/// after them, and what is used is dropped by moving `start`.
 #[derive(Drop)]
 pub struct Buffer {
     block: Vec<u8>,
@@ -50,7 +50,7 @@ fn bring_forward(block: &mut [u8], start: usize, end: usize)
     block.copy_within(start..end, 0);
 }
 
-/// One read into the block behind its first `end` bytes.
+/// Reads once into the block after its first `end` bytes.
 fn read_behind<S: Source>(source: &mut S, block: &mut [u8], end: usize) -> ReadStep
     requires { end < length block.old }
     ensures bytes { S.left source.old ≡ and_left (gave result (drop end block.new)) (S.left source.new) }
@@ -76,7 +76,7 @@ fn write_front(block: &mut [u8], front: &[u8])
 impl Buffer {
     ghost use Rattle.cr_http.specs.Buffer.{text_of, HasRoomFor};
 
-    /// No bytes and no block yet.
+    /// Creates one without bytes and no block yet.
     pub fn new(alloc: Global) -> Self
         ensures { text_of result ≡ [] }
     {
@@ -87,8 +87,11 @@ impl Buffer {
         }
     }
 
-    /// Zeros, `front` of them, and then these bytes, in a block that has room for `len` in all. It takes the memory
-    /// of this one's source.
+    /// Returns `front` zeros and then these bytes, in a block that has room for `len` in all.
+    ///
+    /// # Cost
+    ///
+    /// It takes the memory of this one's source.
     pub fn beside(&self, front: usize, len: usize) -> Result<Self, AllocError>
         requires front { front ≤ length (text_of self.now) }
         requires within { length (text_of self.now) ≤ len }
@@ -107,14 +110,14 @@ impl Buffer {
         })
     }
 
-    /// The bytes.
+    /// Returns the bytes.
     pub fn as_slice(&self) -> &[u8]
         ensures { result.now ≡ text_of self.now }
     {
         &self.block[self.start..self.end]
     }
 
-    /// How many there are.
+    /// Returns how many there are.
     pub fn len(&self) -> usize
         ensures { result ≡ length (text_of self.now) }
     {
@@ -146,8 +149,11 @@ impl Buffer {
         write_front(&mut self.block, front);
     }
 
-    /// The bytes behind the first `n`, in the buffer's own block; the buffer as it was, where there is no memory for
-    /// the count of those who share them.
+    /// Returns the bytes after the first `n`, in the buffer's own block.
+    ///
+    /// # Errors
+    ///
+    /// The unchanged buffer, if there is no memory for the count of the bytes' owners.
     pub fn into_blob(self, n: usize) -> Result<Blob, Buffer>
         requires { n ≤ length (text_of self) }
         ensures ok { IfOk result (λ blob. blob ≡ drop n (text_of self)) }
@@ -190,7 +196,7 @@ impl Buffer {
         self.block.resize(len + len.max(WINDOW), 0)
     }
 
-    /// Makes room behind the bytes. A block that is longer than they are by twice the least room is kept, so that it
+    /// Makes room after the bytes. A block that is longer than they are by twice the least room is kept, so that it
     /// stops growing however many requests go through it.
     fn make_room(&mut self) -> Result<(), AllocError>
         ensures text { text_of self.new ≡ text_of self.old }
@@ -208,7 +214,7 @@ impl Buffer {
         self.grow()
     }
 
-    /// Makes room behind the bytes, up to a length of the block that is at most `most`.
+    /// Makes room after the bytes, up to a length of the block that is at most `most`.
     fn make_room_within(&mut self, most: usize) -> Result<(), AllocError>
         requires room { HasRoomFor most self.old }
         requires short { length (text_of self.old) < most }
@@ -223,7 +229,7 @@ impl Buffer {
         self.block.resize(self.end + more, 0)
     }
 
-    /// One read into the room behind the bytes, which is there.
+    /// Reads once into the room after the bytes, which is there.
     fn read_room<S: Source>(&mut self, source: &mut S) -> Fill
         requires { self.old.end < vec_len self.old.block }
         ensures moves { Moves (S.left source.old) (S.left source.new) (text_of self.old) (text_of self.new) }
@@ -247,7 +253,7 @@ impl Buffer {
         }
     }
 
-    /// One read, behind the bytes that are there.
+    /// Reads once, after the bytes that are there.
     pub fn read_more<S: Source>(&mut self, source: &mut S) -> Fill
         ensures moves { Moves (S.left source.old) (S.left source.new) (text_of self.old) (text_of self.new) }
         ensures once { ReadsWhile S.left S.read_gives (λ text. text ≡ text_of self.old) source.old source.new
@@ -264,7 +270,7 @@ impl Buffer {
         self.read_room(source)
     }
 
-    /// One read, behind the bytes that are there and not past the length `most`.
+    /// Reads once, after the bytes that are there and not past the length `most`.
     pub fn read_within<S: Source>(&mut self, source: &mut S, most: usize) -> Fill
         requires room { HasRoomFor most self.old }
         requires short { length (text_of self.old) < most }

@@ -24,14 +24,14 @@ pub enum HeadFill {
     OutOfMemory,
 }
 
-/// The bytes that are looked at for a head.
+/// Returns the bytes that are looked at for a head.
 fn window(text: &[u8]) -> &[u8]
     ensures { result.now ≡ window text.now }
 {
     front(text, WINDOW)
 }
 
-/// The first bytes, at most so many.
+/// Returns the first bytes, at most so many.
 fn front(bytes: &[u8], most: usize) -> &[u8]
     ensures { result.now ≡ take most bytes.now }
 {

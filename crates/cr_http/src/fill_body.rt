@@ -10,7 +10,7 @@ use crate::fill::{fill_room, fill_to};
 use cr_base::Blob;
 use cr_ports::Source;
 
-/// A body of at least so many bytes is read into a block of its own, where it isn't whole when its head is read.
+/// A body of at least so many bytes is read into a block of its own, if it isn't whole when its head is read.
 pub const LARGE_BODY: usize = 16_384;
 
 /// How the reading of a body ended.
@@ -18,7 +18,7 @@ pub const LARGE_BODY: usize = 16_384;
 pub enum BodyFill {
     /// It is whole, in the buffer.
     Buffer,
-    /// It is whole, in this block; the buffer has only what stands before it.
+    /// It is whole, in this block; the buffer has only what precedes it.
     Block(Blob),
     /// The stream has ended before.
     Ended,
@@ -28,7 +28,7 @@ pub enum BodyFill {
     OutOfMemory,
 }
 
-/// Puts bytes that were read beside the buffer in the place of the buffer's own, behind its first `head`.
+/// Puts bytes that were read beside the buffer in the place of the buffer's own, after its first `head`.
 fn put_back(buffer: &mut Buffer, mut block: Buffer, head: usize)
     requires start { block.start ≡ 0 }
     requires block { head ≤ length (text_of block) }
@@ -39,7 +39,7 @@ fn put_back(buffer: &mut Buffer, mut block: Buffer, head: usize)
     *buffer = block;
 }
 
-/// Parts a whole body from what stands before it; where there is no memory for that, both stay in the buffer.
+/// Parts a whole body from what precedes it; without memory for that, both stay in the buffer.
 fn keep_block(buffer: &mut Buffer, block: Buffer, head: usize) -> BodyFill
     requires start { block.start ≡ 0 }
     requires block { head ≤ length (text_of block) }
@@ -58,8 +58,8 @@ fn keep_block(buffer: &mut Buffer, block: Buffer, head: usize) -> BodyFill
     }
 }
 
-/// Reads on into a block that is made for the body alone, so that nothing is read behind it. The block has room before
-/// the body, for what stands there in the buffer: where the body doesn't come whole, the block with it is the buffer.
+/// Reads on into a block that is made only for the body, so that nothing is read after it. The block has room before
+/// the body, for what precedes it in the buffer: if the body doesn't come whole, the block with it is the buffer.
 fn fill_block<S: Source>(source: &mut S, buffer: &mut Buffer, head: usize, end: usize) -> BodyFill
     requires head { head ≤ length (text_of buffer.old) }
     requires short { length (text_of buffer.old) < end }
@@ -92,7 +92,7 @@ fn fill_block<S: Source>(source: &mut S, buffer: &mut Buffer, head: usize, end: 
 }
 
 /// Reads on until the body is whole that lies between these two offsets. Where it has `LARGE_BODY` bytes or more and
-/// isn't whole yet, nothing behind it is read.
+/// isn't whole yet, nothing after it is read.
 pub fn fill_body<S: Source>(
     source: &mut S,
     buffer: &mut Buffer,

@@ -22,7 +22,7 @@ pub enum Framing {
     Refuse(Refusal),
 }
 
-/// Whether it is 1 to 18 digits.
+/// Returns whether it is 1 to 18 digits.
 fn is_length(value: &[u8]) -> bool
     ensures is { result ≡ is_length value.now }
     ensures short { IsTrue result → length value.now ≤ 18 }
@@ -60,7 +60,7 @@ fn framing_by_value(value: &[u8]) -> Framing
     }
 }
 
-/// Whether a head of this version may have these fields Host.
+/// Returns whether a head of this version may have these fields Host.
 fn has_hosts(version: Version, hosts: Values<'_>) -> bool
     ensures { (list : List (List ℕ)) → AreValues hosts.entry list → result ≡ has_hosts version (length list) }
 {
@@ -71,8 +71,8 @@ fn has_hosts(version: Version, hosts: Values<'_>) -> bool
     }
 }
 
-/// What the fields of the head say: first Host is judged, then Transfer-Encoding, then
-/// Content-Length (RFC 9112, sections 3.2 and 6).
+/// Returns what the fields of the head say: first Host is judged, then Transfer-Encoding, then Content-Length (RFC
+/// 9112, sections 3.2 and 6).
 pub fn framing_of(head: &Head<'_>) -> Framing
     ensures is { result ≡ framing_of head.now }
     ensures short { IsShort result }

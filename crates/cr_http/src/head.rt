@@ -35,7 +35,7 @@ fn version_of(minor: u8) -> Version
     }
 }
 
-/// Where the parts of the head are that these bytes are, from the first to the last, or none.
+/// Returns where the parts of the head are that these bytes are, from the first to the last, or none.
 pub(crate) fn parse_spans(bytes: &[u8], headers: &mut [HeaderSpan]) -> Option<RequestSpans>
     requires room { length headers.old ≡ 64 }
     requires few { line_feeds bytes.now ≤ 66 }
@@ -56,11 +56,13 @@ pub(crate) fn parse_spans(bytes: &[u8], headers: &mut [HeaderSpan]) -> Option<Re
     }
 }
 
-/// The head of a request (RFC 9112, sections 3 and 5), lent from the bytes that were read: its
-/// parts are slices of them, and nothing is copied.
+/// The head of a request (RFC 9112, sections 3 and 5), lent from the bytes that were read: its parts are slices of
+/// them, and nothing is copied.
 ///
-/// Contracts see the parts: method, target, version, and each field by its name and value, the
-/// values without the white space around them.
+/// # Model
+///
+/// The parts: method, target, version, and each field by its name and value, the values without the white space around
+/// them.
 #[derive(Drop)]
 pub struct Head<'b> {
     bytes: &'b [u8],
@@ -85,7 +87,7 @@ impl<'b> Model for Head<'b> {
 }
 
 impl<'b> Head<'b> {
-    /// The head whose parts lie there.
+    /// Returns the head whose parts lie there.
     pub(crate) fn new(bytes: &'b [u8], spans: RequestSpans, headers: &'b [HeaderSpan]) -> Self
         requires { IsRequestWithin bytes.now headers.now spans }
         ensures { result ≡ spans_head bytes.now headers.now spans }
@@ -99,36 +101,40 @@ impl<'b> Head<'b> {
         }
     }
 
-    /// The method, a token, in the case in which it was sent.
+    /// Returns the method, a token, in the case in which it was sent.
     pub fn method(&self) -> &'b [u8]
         ensures { result.now ≡ self.now.method }
     {
         self.method.of(self.bytes)
     }
 
-    /// The request target, as the grammar of `httparse` reads it, not decoded.
+    /// Returns the request target, as the grammar of `httparse` reads it, not decoded.
     pub fn target(&self) -> &'b [u8]
         ensures { result.now ≡ self.now.target }
     {
         self.target.of(self.bytes)
     }
 
-    /// The version of HTTP.
+    /// Returns the version of HTTP.
     pub fn version(&self) -> Version
         ensures { result ≡ self.now.version }
     {
         self.version
     }
 
-    /// Whether the method is HEAD, whose answers leave out their content.
+    /// Returns whether the method is HEAD, whose answers leave out their content.
     pub fn is_head(&self) -> bool
         ensures { result ≡ is_head_method self.now }
     {
         self.method() == b"HEAD".as_slice()
     }
 
-    /// The value of the field of this name where there is exactly one, or that there is none or are
-    /// many. Names are compared without regard to the case of their letters. Costs a look at each field's name.
+    /// Returns the value of the field of this name where there is exactly one, or that there is none or are many.
+    /// Names are compared without regard to the case of their letters.
+    ///
+    /// # Cost
+    ///
+    /// A look at each field's name.
     pub fn values_of(&self, name: &[u8]) -> Values<'b>
         ensures { AreValues result (values_of name.now self.now.fields) }
     {
@@ -141,8 +147,8 @@ impl<'b> Head<'b> {
         }
     }
 
-    /// The values of all fields of this name, in order. Names are compared without regard to the
-    /// case of their letters.
+    /// Returns the values of all fields of this name, in order. Names are compared without regard to the case of their
+    /// letters.
     pub fn all_values_of(&self, name: &'b [u8]) -> AllValues<'b>
         ensures { result ≡ values_of name.now self.now.fields }
     {

@@ -9,16 +9,16 @@ pub const WINDOW: usize = 16_384;
 /// Where a head begins and ends.
 #[derive(Clone, Copy, PartialEq, Eq)]
 pub struct HeadRange {
-    /// The first byte behind the empty lines at the front.
+    /// The first byte after the empty lines at the front.
     pub start: usize,
-    /// The first byte behind the empty line that ends the head.
+    /// The first byte after the empty line that ends the head.
     pub end: usize,
 }
 
-/// Where the search for a head stands.
+/// How far the search for a head has come.
 #[derive(Clone, Copy, PartialEq, Eq)]
 pub enum Search {
-    /// Up to here there are empty lines alone.
+    /// Up to here there are only empty lines.
     Skipping(usize),
     /// The head begins at `start` and doesn't end before an LF at `at` or later.
     InHead {
@@ -60,7 +60,7 @@ fn line_at(bytes: &[u8]) -> Line
     }
 }
 
-/// Looks on for a head in the bytes, from where the search stands.
+/// Looks on for a head in the bytes, from where the search has come.
 pub fn look_on(bytes: &[u8], search: Search) -> Look
     requires { reached search ≤ length bytes.now }
     ensures { Looks bytes.now search result }
@@ -108,7 +108,7 @@ fn look_in_head(bytes: &[u8], start: usize, from: usize) -> Look
     Look::NotYet(Search::InHead { start, at })
 }
 
-/// Where the empty lines at the front end.
+/// Returns where the empty lines at the front end.
 #[tactic(auto, using(crate::proofs::Offsets::blank_behind))]
 pub fn blank_end(bytes: &[u8]) -> usize
     ensures is { result ≡ blank_end_from 0 bytes.now }

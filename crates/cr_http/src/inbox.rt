@@ -20,8 +20,8 @@ pub struct Extent {
     pub range: HeadRange,
     /// The parts of its head, counted from the head's first byte.
     pub spans: RequestSpans,
-    /// Where what follows it begins: behind its body, which begins where the head ends, or behind its head, where its
-    /// body is in a block of its own.
+    /// Where what follows it begins: after its body, which begins where the head ends, or after its head, if its body
+    /// is in a block of its own.
     pub end: usize,
 }
 
@@ -38,8 +38,9 @@ pub struct Request<'b> {
 /// longest request. A body of 16,384 bytes or more that came in pieces has a block of its own, which is dropped here
 /// when the next request is read.
 ///
-/// Contracts see the request that was read last, if one was, and the bytes that were read and not
-/// used.
+/// # Model
+///
+/// The request that was read last, if one was, and the bytes that were read and not used.
 #[derive(Drop)]
 pub struct Inbox {
     pub(crate) buffer: Buffer,
@@ -56,7 +57,7 @@ impl Model for Inbox {
     ghost invariant = { λ i. IfSome i.request (IsExtent (text_of i.buffer) i.headers i.block) };
 }
 
-/// The body in its block, or else these bytes.
+/// Returns the body in its block, or else these bytes.
 fn body_in<'b>(block: &'b Option<Blob>, lent: &'b [u8]) -> Body<'b>
     requires { IsBody (unwrap_or block.now lent.now) }
     ensures { result ≡ unwrap_or block.now lent.now }
@@ -68,7 +69,11 @@ fn body_in<'b>(block: &'b Option<Blob>, lent: &'b [u8]) -> Body<'b>
 }
 
 impl Inbox {
-    /// An inbox with no request and no bytes. It takes no memory yet.
+    /// Returns an inbox with no request and no bytes.
+    ///
+    /// # Cost
+    ///
+    /// It takes no memory yet.
     pub fn new(alloc: Global) -> Self
         ensures request { result.request ≡ None }
         ensures rest { result.rest ≡ [] }
@@ -81,8 +86,8 @@ impl Inbox {
         }
     }
 
-    /// The request that was read last. It is lent: nothing is copied, and it is there until the
-    /// next one is read.
+    /// Returns the request that was read last. It is lent: nothing is copied, and it is there until the next one is
+    /// read.
     pub fn request(&self) -> Request<'_>
         requires { IsSome self.now.request }
         ensures is { self.now.request ≡ Some (record { head = result.head; body = result.body }) }

@@ -22,14 +22,14 @@ pub enum HeadJudgement {
         spans: RequestSpans,
         /// How many bytes its body is to have.
         len: usize,
-        /// Whether the method is HEAD.
+        /// True if the method is HEAD.
         is_head: bool,
     },
     /// The request is refused.
     Refused {
         /// Why.
         why: Refusal,
-        /// Whether the method is HEAD, where that is known.
+        /// True if the method is HEAD, if that is known.
         is_head: bool,
     },
 }

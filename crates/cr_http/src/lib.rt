@@ -1,13 +1,30 @@
-//! Requests out of a stream of bytes, however it is cut into pieces.
+//! Requests out of a stream of bytes (RFC 9112), however it is cut into pieces.
 //!
-//! [`read_request`] reads the head and the body of one request (RFC 9112), and refuses what isn't
-//! one, each refusal under its own name. Its contract speaks of the whole text of the stream: what
-//! stands at an offset is a relation on texts that knows nothing of pieces, and it is one thing.
+//! Head and body are lent from the connection's [`Inbox`]. It allocates one block, and one more for a body of
+//! [`LARGE_BODY`] bytes or more that isn't whole when its head is read.
 //!
-//! The head is parsed once, by `httparse`, and head and body are lent from the connection's
-//! [`Inbox`]. It allocates one block of bytes, and one more for a body of [`LARGE_BODY`] bytes or more
-//! that isn't whole when its head is read: of that at most what came with the head is copied, and
-//! whoever keeps the body shares the block.
+//! # Proved
+//!
+//! - What is read is what the stream's text has at this place, in whatever pieces: a request, a refusal by its name, a
+//!   clean end, or one inside a request. After a fault or lack of memory it is what came, and what is left:
+//!   `read_request` (`reads`).
+//! - Unless memory runs out, a body has at most 4,194,304 bytes (4 MiB), and is kept unchanged: `Inbox::request`
+//!   (`short`), `Body::to_blob` (`value`).
+//! - Each read was made while the bytes at hand had no request or refusal at their front (`needed`, in `reads`). So
+//!   none follows a refusal, and its body stays unread.
+//! - No read goes past a body of [`LARGE_BODY`] bytes or more that it finds unfinished: `fill_body` (`exact`).
+//! - A read fault means that the source's counter rose; else it stays: `read_request` (`fault`, `steady`).
+//! - A text has one reading: `law_one_reading`. A request or refusal at its front stays, whatever follows:
+//!   `law_final_stays`.
+//! - Decimal digits are read as their number: `all_digits`.
+//!
+//! # Assumed
+//!
+//! - A large body is shared and not copied.
+//!
+//! # Not claimed
+//!
+//! - That other servers end a head where the definition does, whose grammar of heads is that of `httparse`.
 #![tactic(auto)]
 
 mod body;

@@ -27,8 +27,7 @@ pub enum RequestRead {
     Refused {
         /// Why.
         why: Refusal,
-        /// Whether the refusal answers HEAD, so that its content is left out. False where the head
-        /// wasn't read so far.
+        /// True if the refusal answers HEAD, so that its content is left out. False where the head wasn't read so far.
         is_head: bool,
     },
     /// The stream ended between requests.
@@ -39,24 +38,27 @@ pub enum RequestRead {
     ReadFault,
     /// There was no memory for more bytes, before a whole request was read.
     OutOfMemory {
-        /// Whether what is answered is HEAD. False where the head wasn't read so far.
+        /// True if what is answered is HEAD. False where the head wasn't read so far.
         is_head: bool,
     },
 }
 
-/// Reads the request at the front of the bytes that the inbox has not used and those that the
-/// source has left. The request that the inbox lent before is dropped first.
+/// Reads the request at the front of the bytes that the inbox has not used and those that the source has left. The
+/// request that the inbox lent before is dropped first.
 ///
-/// Nothing is read ahead: each read is made only where neither a whole request nor a refusal stands in
-/// what has come, so behind a refusal that closes no byte of a body is asked for. Bytes behind the
-/// request that came with its last piece stay in the inbox. Where bytes of a head come later, the
-/// search goes on where it stopped. A body of 16,384 bytes or more that isn't whole when its head is read
-/// goes into a block of its own, of the length that the head tells, and no read goes past its end.
+/// Nothing is read ahead: each read is made only where neither a whole request nor a refusal is in what has come, so
+/// after a refusal that closes no byte of a body is asked for. Bytes after the request that came with its last piece
+/// stay in the inbox. Where bytes of a head come later, the search goes on where it stopped. A body of 16,384 bytes or
+/// more that isn't whole when its head is read goes into a block of its own, of the length that the head tells, and no
+/// read goes past its end.
 ///
-/// `ReadFault` comes only where the source's count of faults rose, or stands at its last value, and
-/// with every other answer that count is as it was. Behind it, and behind `OutOfMemory`, the inbox
-/// keeps all that came, and the source has left what follows. Costs a few looks at each byte of the
-/// head, and the reads.
+/// `ReadFault` comes only where the source's fault counter rose, or is at its maximum, and with every other answer
+/// that count is unchanged. Behind it, and after `OutOfMemory`, the inbox keeps all that came, and the source has left
+/// what follows.
+///
+/// # Cost
+///
+/// A few looks at each byte of the head, and the reads.
 pub fn read_request<S: Source>(source: &mut S, inbox: &mut Inbox) -> RequestRead
     ensures reads { Reads S.left S.read_gives source.old source.new inbox.old inbox.new result }
     ensures still { IsSettled inbox.old.rest → source.new ≡ source.old }
@@ -108,7 +110,7 @@ fn read_into<S: Source>(
     }
 }
 
-/// Reads on behind the head that lies there.
+/// Reads on after the head that lies there.
 fn read_framed<S: Source>(
     source: &mut S,
     buffer: &mut Buffer,
@@ -153,7 +155,7 @@ fn read_framed<S: Source>(
     }
 }
 
-/// What the end of the stream means where no head is.
+/// Returns what the end of the stream means where no head is.
 fn at_end(text: &[u8]) -> RequestRead
     requires none { head_at text.now ≡ None }
     requires short { length text.now < 16384 }

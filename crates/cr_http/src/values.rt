@@ -24,7 +24,7 @@ fn same_name(a: &[u8], b: &[u8]) -> bool
     a.eq_ignore_ascii_case(b)
 }
 
-/// The value of the first field of that name, and the fields behind it.
+/// Returns the value of the first field of that name, and the fields after it.
 pub(crate) fn first_value<'b>(
     bytes: &'b [u8],
     fields: &'b [HeaderSpan],
@@ -44,7 +44,11 @@ pub(crate) fn first_value<'b>(
     first_value(bytes, rest, name)
 }
 
-/// Goes over the values of all fields of one name, in order. Contracts see the values to come.
+/// Goes over the values of all fields of one name, in order.
+///
+/// # Model
+///
+/// The values to come.
 #[derive(Drop)]
 pub struct AllValues<'b> {
     bytes: &'b [u8],
@@ -72,8 +76,11 @@ impl<'b> AllValues<'b> {
         }
     }
 
-    /// The next value, without the white space around it, or none where none is left. Costs a look
-    /// at the names of the fields up to it.
+    /// Returns the next value, without the white space around it, or none where none is left.
+    ///
+    /// # Cost
+    ///
+    /// A look at the names of the fields up to it.
     pub fn next(&mut self) -> Option<&'b [u8]>
         ensures { HasNext self.old result self.new }
     {

@@ -1,11 +1,14 @@
-//! One writer of JSON: objects and lists of any kind, and what the values of `cr_base` are in them.
+//! One writer of JSON: objects, lists, and the values of cr_base in them, appended to a buffer.
 //!
-//! What is written is appended to a buffer, and an error comes only for lack of memory. Each call says what it
-//! appends, and for what is brief, how much room suffices for it to take no memory.
+//! # Proved
 //!
-//! `Object` writes an object member by member, and `Value` is what stands in a list or under a key. It is implemented
-//! here for the parts of answers too, since an `impl` stands with its trait or with its type. Strings are written in
-//! runs that need no escape. Nothing here knows of HTTP.
+//! - Unless memory runs out, each call appends exactly the defined text of its member, or nothing if it is absent:
+//!   `Object::number`, `Object::string`, `Object::bid`, `Object::label` (`adds`); `Object::list`, `Object::fixed`,
+//!   `Object::truth`, `Object::told`, `append_list_alone`.
+//! - A value in JSON is the text of its `Value`. A deadline has the digits of `jiff`'s civil time in UTC:
+//!   `add_deadline` (`adds`). Strings are escaped as `json` defines.
+//! - Six times are written out: `law_times_written_out`.
+//! - Short members take at most the bytes that `room` says, and memory only if that room is missing: `Takes`.
 #![tactic(auto)]
 
 mod accepted;

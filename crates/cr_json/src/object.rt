@@ -31,8 +31,11 @@ fn word_of(truth: bool) -> &'static str
 }
 
 impl Object {
-    /// Begins an object; an error only for lack of memory, here and below. Behind one, `into` may have a part of
-    /// what was to be written.
+    /// Begins an object. After an error of this or a later call `into` may have a part of what was to be written.
+    ///
+    /// # Errors
+    ///
+    /// If memory runs out.
     pub fn open(into: &mut Vec<u8>) -> Result<Object, AllocError>
         ensures text { Appends result into.old into.new (codes "{") }
         ensures first { IfOk result (λ o. o.is_first ≡ true) }
@@ -131,7 +134,7 @@ impl Object {
         append_list(into, items)
     }
 
-    /// Writes a member whose value is JSON already, where that is told.
+    /// Writes a member whose value is JSON already, if that is told.
     pub fn fixed(
         &mut self,
         into: &mut Vec<u8>,
@@ -149,7 +152,7 @@ impl Object {
         append(into, value.as_bytes())
     }
 
-    /// Writes a member that is true or false, where that is told.
+    /// Writes a member that is true or false, if that is told.
     pub fn truth(
         &mut self,
         into: &mut Vec<u8>,
@@ -165,7 +168,7 @@ impl Object {
         }
     }
 
-    /// Writes a member of any value, where that is told.
+    /// Writes a member of any value, if that is told.
     pub fn told<T: Value>(
         &mut self,
         into: &mut Vec<u8>,
@@ -193,7 +196,11 @@ impl Object {
     }
 }
 
-/// Appends an object that has a list alone; an error only for lack of memory.
+/// Appends an object that has only a list.
+///
+/// # Errors
+///
+/// If memory runs out.
 pub fn append_list_alone<T: Value>(
     into: &mut Vec<u8>,
     key: &str,

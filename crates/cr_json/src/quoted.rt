@@ -36,7 +36,7 @@ fn hex(digit: u8) -> u8
     }
 }
 
-/// What stands in a string for a byte, at most six bytes.
+/// Returns what is in a string for a byte, at most six bytes.
 #[tactic(auto, unfolding(json::specs::Print::escape_byte))]
 fn escaped(byte: u8) -> ArrayVec<u8, 6>
     ensures { result.items ≡ escape_byte byte }
@@ -58,8 +58,8 @@ fn escaped(byte: u8) -> ArrayVec<u8, 6>
     text
 }
 
-/// Appends what stands in a string for a text from `at` on, up to the next byte that needs an escape
-/// and with it: where the rest begins.
+/// Appends what is in a string for a text from `at` on, up to the next byte that needs an escape and with it: where
+/// the rest begins.
 fn append_run(into: &mut Vec<u8>, text: &[u8], at: usize) -> Result<usize, AllocError>
     requires { at < length text.now }
     ensures after { IfOk result (λ next. at < next) }

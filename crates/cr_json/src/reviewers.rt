@@ -19,7 +19,7 @@ impl Value for Bidder {
     }
 }
 
-/// A reviewer, as far as the caller is told of her.
+/// A reviewer, as far as the caller is told of the user.
 impl Value for Reviewer {
     ghost use Rattle.cr_json.specs.Reviewers.{reviewer_text};
 

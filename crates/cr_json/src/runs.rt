@@ -8,7 +8,7 @@ ghost use Rattle.json.specs.Written.{PlainBetween};
 
 use std::simd::prelude::*;
 
-/// Whether none of the 32 bytes from `at` on needs an escape.
+/// Returns whether none of the 32 bytes from `at` on needs an escape.
 fn is_plain_block(text: &[u8], at: usize) -> bool
     requires { at + 32 ≤ length text.now }
     ensures { OnTrue result (PlainBetween text.now at (at + 32)) }
@@ -20,7 +20,7 @@ fn is_plain_block(text: &[u8], at: usize) -> bool
         == 0
 }
 
-/// Where the blocks end that need no escape, from `start` on.
+/// Returns where the blocks end that need no escape, from `start` on.
 fn blocks_end(text: &[u8], start: usize) -> usize
     requires { start ≤ length text.now }
     ensures after { start ≤ result }
@@ -43,8 +43,8 @@ fn needs_escape(byte: u8) -> bool
     byte == b'"' || byte == b'\\' || byte < 0x20
 }
 
-/// Where the run ends that begins at `start` and needs no escape: at the next byte that needs one, or
-/// at the text's end. 32 bytes are looked at in one step where so many are left.
+/// Returns where the run ends that begins at `start` and needs no escape: at the next byte that needs one, or at the
+/// text's end. 32 bytes are looked at in one step where so many are left.
 pub(crate) fn run_end(text: &[u8], start: usize) -> usize
     requires { start ≤ length text.now }
     ensures after { start ≤ result }

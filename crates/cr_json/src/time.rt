@@ -15,7 +15,7 @@ use std::alloc::AllocError;
 /// The bytes of a time's text.
 const TIME_TEXT: usize = 20;
 
-/// The day and the time of a deadline in UTC.
+/// Returns the day and the time of a deadline in UTC.
 fn civil_of(deadline: Deadline) -> DateTime
     ensures { civil_parts result ≡ civil_time deadline }
 {
@@ -23,14 +23,14 @@ fn civil_of(deadline: Deadline) -> DateTime
     Offset::UTC.to_datetime(instant)
 }
 
-/// The last digit of a number in decimal.
+/// Returns the last digit of a number in decimal.
 fn digit(number: u16) -> u8
     ensures { result ≡ last_digit number }
 {
     b'0' + (number % 10) as u8
 }
 
-/// The text of a day and a time.
+/// Returns the text of a day and a time.
 fn text_of(civil: DateTime) -> [u8; TIME_TEXT]
     ensures value { result ≡ civil_text (civil_parts civil) }
     ensures whole { length result ≡ 20 }
@@ -66,7 +66,7 @@ fn text_of(civil: DateTime) -> [u8; TIME_TEXT]
     ]
 }
 
-/// The text of a deadline.
+/// Returns the text of a deadline.
 fn time_text(deadline: Deadline) -> [u8; TIME_TEXT]
     ensures value { result ≡ text_at deadline }
     ensures whole { length result ≡ 20 }

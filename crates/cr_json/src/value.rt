@@ -17,7 +17,11 @@ pub trait Value {
     /// Its text in JSON.
     ghost text: { Self → List ℕ };
 
-    /// Appends it; an error only for lack of memory.
+    /// Appends it.
+    ///
+    /// # Errors
+    ///
+    /// If memory runs out.
     fn append_to(&self, into: &mut Vec<u8>) -> Result<(), AllocError>
         ensures { Appends result into.old into.new (text self.now) };
 }

@@ -32,8 +32,8 @@ pub(crate) fn bid(
     Ok(alone(stamp, Entry::Bid { paper, value }))
 }
 
-/// The entry that turns on or off the conflict of the user who was found for a name, behind earlier entries of the
-/// same bulk.
+/// Returns the entry that turns on or off the conflict of the user who was found for a name, after earlier entries of
+/// the same bulk.
 pub(crate) fn conflict(
     live: &Live,
     stamp: &Stamp,
@@ -65,7 +65,7 @@ pub(crate) fn conflict(
     Ok(Entry::Conflict { paper, user, on })
 }
 
-/// The entry that assigns the user of a name, behind earlier entries of the same bulk.
+/// Returns the entry that assigns the user of a name, after earlier entries of the same bulk.
 pub(crate) fn assignment(
     live: &Live,
     stamp: &Stamp,
@@ -99,7 +99,7 @@ pub(crate) fn assignment(
     })
 }
 
-/// The entry that takes the user of a name off the paper, behind earlier entries of the same bulk.
+/// Returns the entry that takes the user of a name off the paper, after earlier entries of the same bulk.
 pub(crate) fn unassignment(
     live: &Live,
     stamp: &Stamp,
@@ -131,7 +131,7 @@ pub(crate) fn unassignment(
     })
 }
 
-/// The entry that invites the user of a name to the paper.
+/// Returns the entry that invites the user of a name to the paper.
 pub(crate) fn invitation(
     live: &Live,
     stamp: &Stamp,
@@ -155,7 +155,7 @@ pub(crate) fn invitation(
     Ok(alone(stamp, Entry::Invited { paper, user }))
 }
 
-/// The entry that takes the invitation of the user of a name back.
+/// Returns the entry that takes the invitation of the user of a name back.
 pub(crate) fn uninvitation(
     live: &Live,
     stamp: &Stamp,
@@ -178,9 +178,12 @@ pub(crate) fn uninvitation(
     Ok(alone(stamp, Entry::Uninvited { paper, user }))
 }
 
-/// Whether a form is written under the label under which the user reviews the paper behind the earlier entries; false
-/// where she doesn't. A walk over the paper's seats and one over these entries, and where she does a walk over the
-/// paper's forms.
+/// Returns whether a form is written under the label under which the user reviews the paper after the earlier entries;
+/// false where the user doesn't.
+///
+/// # Cost
+///
+/// A walk over the paper's seats and one over these entries, and where the user does a walk over the paper's forms.
 fn has_written(
     live: &Live,
     user: &Option<UserNo>,

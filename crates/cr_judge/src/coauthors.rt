@@ -8,8 +8,12 @@ use crate::named::user_of;
 use cr_base::{Coauthors, Short, UserNo};
 use cr_view::Live;
 
-/// The users of these names, in their order and each once, without the maker; none where one of them
-/// isn't there. Takes no memory; one look-up by name each.
+/// Returns the users of these names, in their order and each once, without the maker; `None` if one of them isn't
+/// there.
+///
+/// # Cost
+///
+/// Takes no memory; one look-up by name each.
 pub(crate) fn coauthors(live: &Live, maker: UserNo, names: &[Option<Short>]) -> Option<Coauthors>
     requires { length names.now ≤ 19 }
     ensures { result ≡ coauthors_of maker (users_at live.now.tables.accounts names.now) }
@@ -24,7 +28,7 @@ pub(crate) fn coauthors(live: &Live, maker: UserNo, names: &[Option<Short>]) -> 
     Some(coauthors)
 }
 
-/// Adds a user, unless she is the maker or was told before.
+/// Adds a user, unless the user is the maker or was told before.
 fn push_once(coauthors: &mut Coauthors, maker: UserNo, user: UserNo)
     requires { length coauthors.old < 19 }
     ensures { coauthors.new ≡ coauthors.old ++ given (not (list_any (λ v. v == user) (maker ∷ coauthors.old))) user }
@@ -35,7 +39,7 @@ fn push_once(coauthors: &mut Coauthors, maker: UserNo, user: UserNo)
     coauthors.push(user);
 }
 
-/// Whether the user is one of these.
+/// Returns whether the user is one of these.
 fn is_among(users: &[UserNo], user: UserNo) -> bool
     ensures { result ≡ list_any (λ v. v == user) users.now }
 {

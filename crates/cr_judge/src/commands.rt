@@ -21,23 +21,24 @@ use cr_base::{
 };
 use cr_view::Live;
 
-/// What the caller's command comes to, or the first broken rule of its kind. There is a caller, but for
-/// a registration; a submission tells at most 19 co-authors. The entries may be applied in their
-/// turn.
+/// Returns what the caller's command comes to. There is a caller, except of a registration; a submission tells at most
+/// 19 co-authors. The entries may be applied in their turn.
 ///
-/// The rules and their order stand at the table that has each list: `register_check`, `judge_name` and
-/// `judge_dismiss` of the accounts, `judge_phase`, `judge_mode` and `judge_deadline` of the stage, `judge_submit`,
-/// `judge_revise`, `judge_upload` and `judge_withdraw` of the papers, `judge_conflict` and `judge_bid` of the ties,
-/// `judge_assign`, `judge_unassign`, `judge_invite` and `judge_uninvite` of the seats, and `judge_review`,
-/// `judge_comment`, `judge_respond`, `judge_tag` and `judge_decide`.
+/// # Errors
 ///
-/// Takes no memory: the command's texts and its content are moved. A registration takes one look-up by name, and so
-/// does each command that names a user (a naming, a dismissal, a conflict, an assignment, an invitation, the end of
-/// either); a submission takes one for each co-author told. Where a paper is named, how the caller stands to it takes
-/// walks over the paper's authors and seats and a binary search among its conflicts and one among its invitations,
-/// and how a user stands who is named with it takes as much at most; the end of an assignment takes a walk over the
-/// paper's forms too, a review such a walk and one more over the seats, and a comment one more over the seats. All
-/// else is a few reads by number.
+/// The first broken rule of its kind. The rules and their order are at the table that has each list: `register_check`,
+/// `judge_name` and `judge_dismiss` of the accounts, `judge_phase`, `judge_mode` and `judge_deadline` of the stage,
+/// `judge_submit`, `judge_revise`, `judge_upload` and `judge_withdraw` of the papers, `judge_conflict` and `judge_bid`
+/// of the ties, `judge_assign`, `judge_unassign`, `judge_invite` and `judge_uninvite` of the seats, and
+/// `judge_review`, `judge_comment`, `judge_respond`, `judge_tag` and `judge_decide`.
+///
+/// # Cost
+///
+/// Takes no memory: the command's texts and its content are moved. One look-up by name for a registration, for each
+/// user named and for each co-author. For a paper named, walks over its authors and seats, and binary searches among
+/// its conflicts and invitations, for the caller and at most as much for a user named with it. An unassignment walks
+/// over the paper's forms too; a review walks over them and once more over the seats; a comment once more over the
+/// seats. All else is a few reads by number.
 pub fn judge(live: &Live, call: Call) -> Result<Effect, Rule>
     requires caller { HasCaller call }
     requires few { HasFewAuthors call.command }
@@ -48,7 +49,7 @@ pub fn judge(live: &Live, call: Call) -> Result<Effect, Rule>
     effect_of(live, call)
 }
 
-/// The same: of a registration, which is nobody's, or of a user's command.
+/// Returns what a command comes to: a registration, which has no caller, or a user's.
 fn effect_of(live: &Live, call: Call) -> Result<Effect, Rule>
     requires caller { HasCaller call }
     requires few { HasFewAuthors call.command }
@@ -73,7 +74,7 @@ fn effect_of(live: &Live, call: Call) -> Result<Effect, Rule>
     }
 }
 
-/// What the command of the user whose stamp this is comes to, by the function of its kind.
+/// Returns what the command of the user whose stamp this is comes to, by the function of its kind.
 fn user_effect_of(live: &Live, stamp: &Stamp, command: Command) -> Result<Effect, Rule>
     requires login { IsTrue (command_wants_login command) }
     requires few { HasFewAuthors command }
@@ -148,7 +149,7 @@ fn registration(
     })
 }
 
-/// The first user becomes a chair.
+/// Returns the first user becomes a chair.
 fn behind_registration(user: UserNo) -> Rest
     ensures { result ≡ (if user == 1 then rests.FirstChair user else rests.Nothing) }
 {

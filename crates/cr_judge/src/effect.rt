@@ -21,14 +21,14 @@ pub struct Effect {
     pub(crate) rest: Rest,
 }
 
-/// The entries behind the first.
+/// The entries after the first.
 #[derive(Drop)]
 pub(crate) enum Rest {
     /// None.
     Nothing,
     /// The first user becomes a chair.
     FirstChair {
-        /// Her number.
+        /// The user's number.
         user: UserNo,
     },
     /// Each co-author of a new paper.
@@ -41,7 +41,7 @@ pub(crate) enum Rest {
 }
 
 impl Rest {
-    /// How many there are.
+    /// Returns how many there are.
     fn count(&self) -> usize
         ensures value { result ≡ length (behind self.now) }
         ensures few { result ≤ 19 }
@@ -53,7 +53,7 @@ impl Rest {
         }
     }
 
-    /// The one at this index.
+    /// Returns the one at this index.
     fn entry(&self, index: usize) -> Entry
         requires { index < length (behind self.now) }
         ensures { slice_get (behind self.now) index ≡ Some result }
@@ -73,15 +73,22 @@ impl Rest {
 }
 
 impl Effect {
-    /// What the command is answered. Takes no memory; where it changes a role one read by number.
+    /// Returns what the command is answered.
+    ///
+    /// # Cost
+    ///
+    /// Takes no memory; where it changes a role one read by number.
     pub fn receipt(&self, live: &Live) -> Receipt
         ensures { result ≡ (drawn_by live.now.tables.accounts self.now).receipt }
     {
         receipt_of(live, &self.first)
     }
 
-    /// The entries that the command adds, which have its texts and its content whole. An error only for lack of
-    /// memory.
+    /// Returns the entries that the command adds, which have its texts and its content whole.
+    ///
+    /// # Errors
+    ///
+    /// If memory runs out.
     pub fn group(self, alloc: Global) -> Result<Vec<Stamped>, AllocError>
         ensures { IfOk result (λ group. group.items ≡ group_of self) }
     {
@@ -96,7 +103,7 @@ impl Effect {
     }
 }
 
-/// The effect of one entry under this stamp.
+/// Returns the effect of one entry under this stamp.
 pub(crate) fn alone(stamp: &Stamp, entry: Entry) -> Effect
     ensures { result ≡ alone stamp.now entry }
 {
@@ -107,7 +114,7 @@ pub(crate) fn alone(stamp: &Stamp, entry: Entry) -> Effect
     }
 }
 
-/// The same of a judgement, which may tell a broken rule.
+/// Returns the effect of a judgement, which may be a broken rule.
 pub(crate) fn alone_or_rule(stamp: &Stamp, judged: Result<Entry, Rule>) -> Result<Effect, Rule>
     ensures { result ≡ alone_or_rule stamp.now judged }
 {
@@ -117,7 +124,7 @@ pub(crate) fn alone_or_rule(stamp: &Stamp, judged: Result<Entry, Rule>) -> Resul
     }
 }
 
-/// An entry with its stamp, and whether another follows it.
+/// Returns an entry with its stamp, and whether another follows it.
 fn stamped(stamp: &Stamp, more: bool, entry: Entry) -> Stamped
     ensures { result ≡ stamped stamp.now more entry }
 {
@@ -128,15 +135,19 @@ fn stamped(stamp: &Stamp, more: bool, entry: Entry) -> Stamped
     }
 }
 
-/// What a command is answered whose first entry this is, also where it was added before: what it tells is in the entry,
-/// but for the name of the user whose role it changes. Takes no memory; where it changes one, one read by number.
+/// Returns what a command is answered whose first entry this is, also where it was added before: what it tells is in
+/// the entry, except the name of the user whose role it changes.
+///
+/// # Cost
+///
+/// Takes no memory; where it changes one, one read by number.
 pub fn receipt_of(live: &Live, first: &Entry) -> Receipt
     ensures { result ≡ receipt_of (name_told_by (lines_of live.now.tables.accounts) first.now) first.now }
 {
     receipt_with(first, &name_for(live, first))
 }
 
-/// The name of the user whose role the entry changes.
+/// Returns the name of the user whose role the entry changes.
 fn name_for(live: &Live, first: &Entry) -> Option<Short>
     ensures { unwrap_or result [] ≡ name_told_by (lines_of live.now.tables.accounts) first.now }
 {
@@ -147,7 +158,7 @@ fn name_for(live: &Live, first: &Entry) -> Option<Short>
     }
 }
 
-/// The same, with that name.
+/// Returns the receipt of this first entry, with that name.
 fn receipt_with(first: &Entry, name: &Option<Short>) -> Receipt
     ensures { result ≡ receipt_of (unwrap_or name.now []) first.now }
 {
@@ -186,7 +197,7 @@ fn receipt_with(first: &Entry, name: &Option<Short>) -> Receipt
     }
 }
 
-/// The name; no bytes where there is none.
+/// Returns the name; no bytes where there is none.
 fn given(name: &Option<Short>) -> Short
     ensures { result ≡ unwrap_or name.now [] }
 {

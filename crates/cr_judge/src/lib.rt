@@ -1,5 +1,15 @@
-//! Judgement by the tables: what a caller's command comes to, or the first rule that it breaks, and the same of each
-//! row of a bulk. Each list of rules is the table's that has it; what is asked there is found here. No table changes.
+//! Judgement by the tables: what a command comes to, or the first rule that it breaks, and so for each row of a bulk.
+//! No table changes.
+//!
+//! # Proved
+//!
+//! - A judgement is that by checks on the tables: the first broken rule, or what is drawn, which fits the tables in
+//!   its turn: `judge` (`drawn`, `fits`).
+//! - Its receipt and group are exact; only the group takes memory: `Effect::receipt`, `Effect::group`. The receipt is
+//!   a function of the first entry: `receipt_of`.
+//! - A bulk's row is judged by the tables followed by the entries of the rows before it: its first broken rule, or its
+//!   entry: `judge_row` (`judged`, `fits`, `next`).
+//! - Whether a caller may send a bulk at all is exact: `may_bulk`.
 #![tactic(auto)]
 
 mod assigning;

@@ -19,7 +19,7 @@ ghost use Rattle.cr_judge.specs.Targets.{target_at};
 use cr_base::{Ordinal, PaperNo, Role, Short, Stamp, Stamped, Standing, Steps, UserNo};
 use cr_view::Live;
 
-/// What is there, where something is.
+/// Returns what is there, where something is.
 pub(crate) fn held<T: Copy>(option: &Option<T>) -> T
     requires { IsSome option.now }
     ensures { option.now ≡ Some result }
@@ -33,15 +33,15 @@ pub(crate) fn held<T: Copy>(option: &Option<T>) -> T
 /// The paper that a command names.
 #[derive(Clone, Copy)]
 pub(crate) struct Named {
-    /// How the caller stands to it.
+    /// The caller's standing at it.
     pub(crate) by: Standing,
-    /// Its number, where it is there.
+    /// Its number, if it is there.
     pub(crate) paper: Option<PaperNo>,
-    /// Whether it was withdrawn.
+    /// True if it was withdrawn.
     pub(crate) withdrawn: bool,
 }
 
-/// The paper of this number, where it is there.
+/// Returns the paper of this number, if it is there.
 pub(crate) fn named_paper(
     live: &Live,
     maker: UserNo,
@@ -60,7 +60,7 @@ pub(crate) fn named_paper(
     }
 }
 
-/// The number, where there is a paper of it.
+/// Returns the number, where there is a paper of it.
 fn there(live: &Live, paper: &Option<PaperNo>) -> Option<PaperNo>
     ensures { result ≡ there_in live.now.tables.papers paper.now }
 {
@@ -73,7 +73,7 @@ fn there(live: &Live, paper: &Option<PaperNo>) -> Option<PaperNo>
     Some(*number)
 }
 
-/// Whether it was withdrawn; false for none.
+/// Returns whether it was withdrawn; false for none.
 fn is_withdrawn(live: &Live, paper: &Option<PaperNo>) -> bool
     ensures { result ≡ at_some (is_withdrawn_at live.now.tables.papers) paper.now }
 {
@@ -85,16 +85,23 @@ fn is_withdrawn(live: &Live, paper: &Option<PaperNo>) -> bool
     }
 }
 
-/// Whether it is too late, at the moment of this stamp, for what the phase opens. Takes no memory; two reads.
+/// Returns whether it is too late, at the moment of this stamp, for what the phase opens.
+///
+/// # Cost
+///
+/// Takes no memory; two reads.
 pub(crate) fn is_late(live: &Live, stamp: &Stamp) -> bool
     ensures { result ≡ is_late_in live.now.tables.stage stamp.now.at }
 {
     live.stage_table().is_late(stamp.at)
 }
 
-/// What a user is to the conference and to the paper. Takes no memory; a few reads by number, two walks over the
-/// paper's authors, one over its seats, a binary search among its conflicts and one among its invitations, and four
-/// walks over the earlier entries.
+/// Returns what a user is to the conference and to the paper.
+///
+/// # Cost
+///
+/// Takes no memory; a few reads by number, two walks over the paper's authors, one over its seats, a binary search
+/// among its conflicts and one among its invitations, and four walks over the earlier entries.
 fn standing_behind(
     live: &Live,
     user: &Option<UserNo>,
@@ -119,7 +126,8 @@ fn standing_behind(
     }
 }
 
-/// Whether the user is in conflict with the paper; false for nobody, and for none.
+/// Returns whether the user is in conflict with the paper; false for an unauthenticated caller, and if there is no
+/// paper.
 pub(crate) fn is_conflicted(
     live: &Live,
     user: &Option<UserNo>,
@@ -142,7 +150,7 @@ pub(crate) fn is_conflicted(
     }
 }
 
-/// Whether the user, who has this role, is an external of the paper; false for nobody, and for none.
+/// Returns whether the user, who has this role, is an external of the paper; false if there is no user or no paper.
 fn is_external(
     live: &Live,
     user: &Option<UserNo>,
@@ -164,7 +172,7 @@ fn is_external(
     }
 }
 
-/// The same of a user whom a command names, with her role.
+/// Returns whether a user that a command names, with this role, is an external of the paper.
 pub(crate) fn is_external_target(
     live: &Live,
     target: &Option<(UserNo, Role)>,
@@ -180,7 +188,8 @@ pub(crate) fn is_external_target(
     }
 }
 
-/// The ordinal of the label under which the user reviews the paper; none for nobody, and for none.
+/// Returns the ordinal of the label under which the user reviews the paper; `None` for an unauthenticated caller, and
+/// if there is no paper.
 pub(crate) fn ordinal_of(
     live: &Live,
     user: &Option<UserNo>,
@@ -200,7 +209,11 @@ pub(crate) fn ordinal_of(
     }
 }
 
-/// The user of a name that may be none, if somebody registered it. One look-up by name.
+/// Returns the user of a name that may be none, if somebody registered it.
+///
+/// # Cost
+///
+/// One look-up by name.
 pub(crate) fn user_of(live: &Live, name: &Option<Short>) -> Option<UserNo>
     ensures { result ≡ target_at live.now.tables.accounts name.now }
 {
@@ -210,7 +223,11 @@ pub(crate) fn user_of(live: &Live, name: &Option<Short>) -> Option<UserNo>
     }
 }
 
-/// The user who was found for a name, with her role. One read by number.
+/// Returns the user who was found for a name, with their role.
+///
+/// # Cost
+///
+/// One read by number.
 pub(crate) fn target_of(live: &Live, user: &Option<UserNo>) -> Option<(UserNo, Role)>
     ensures { result ≡ target_with live.now.tables.accounts user.now }
 {

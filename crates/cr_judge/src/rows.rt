@@ -16,8 +16,15 @@ use crate::writing::tag;
 use cr_base::{Entry, PaperNo, RowCommand, Rule, Short, Stamp, Stamped, UserNo};
 use cr_view::Live;
 
-/// Whether a user may send a bulk, or the first broken rule: `NotChair`, else `WrongPhase` before the
-/// bidding and from the notification on. Takes no memory; a few reads by number.
+/// Checks whether a user may send a bulk.
+///
+/// # Errors
+///
+/// The first broken rule: `NotChair`, else `WrongPhase` before the bidding and from the notification on.
+///
+/// # Cost
+///
+/// Takes no memory; a few reads by number.
 pub fn may_bulk(live: &Live, caller: UserNo) -> Result<(), Rule>
     ensures { result ≡ judged (bulk_checks (standing_at live.now.tables (Some caller) None)) tt }
 {
@@ -31,15 +38,19 @@ pub fn may_bulk(live: &Live, caller: UserNo) -> Result<(), Rule>
     Ok(())
 }
 
-/// The entry that a row of a bulk under this stamp comes to, or the first broken rule, behind the `earlier`
-/// entries of the same bulk, which no table knows yet: each is of a kind that a row adds, and may come next in its
-/// turn. So may this one. No table is changed.
+/// Returns the entry that a row of a bulk under this stamp comes to, after the `earlier` entries of the same bulk,
+/// which no table has yet: each is of a kind that a row adds, and may come next in its turn. So may this one. No table
+/// is changed.
 ///
-/// First comes `BulkSelf`, where it turns a conflict of the caller's own on or off; then the rules of the
-/// command, as `judge` tells them.
+/// # Errors
 ///
-/// Takes no memory. The cost is that of the command in `judge`, and walks over the earlier entries, at most
-/// 511: three for how the caller stands to the paper, and five more at most for how the user named does.
+/// The first broken rule: `BulkSelf`, if it turns a conflict of the caller's own on or off; then the rules of the
+/// command, as of `judge`.
+///
+/// # Cost
+///
+/// Takes no memory. That of the command in `judge`, and walks over the earlier entries, at most 511: three for the
+/// caller's standing at the paper, and five more at most for the user named.
 pub fn judge_row(
     live: &Live,
     stamp: &Stamp,
@@ -59,7 +70,7 @@ pub fn judge_row(
     row_entry(live, stamp, command, earlier)
 }
 
-/// The same by the function of its kind.
+/// Returns the row's entry by the function of its kind.
 fn row_entry(
     live: &Live,
     stamp: &Stamp,
@@ -86,8 +97,12 @@ fn row_entry(
     }
 }
 
-/// The entry of a row that turns a conflict on or off: `BulkSelf` where it is the caller's own, and else what
-/// `conflict` tells. One look-up by name.
+/// Returns the entry of a row that turns a conflict on or off: `BulkSelf` where it is the caller's own, and else what
+/// `conflict` tells.
+///
+/// # Cost
+///
+/// One look-up by name.
 fn row_conflict(
     live: &Live,
     stamp: &Stamp,
@@ -108,7 +123,7 @@ fn row_conflict(
     conflict(live, stamp, paper, &user, on, earlier)
 }
 
-/// Whether the user found, if there is one, is this one.
+/// Returns whether the user found, if there is one, is this one.
 fn is_user(found: &Option<UserNo>, user: UserNo) -> bool
     ensures { result ≡ is_number found.now user }
 {

@@ -89,7 +89,7 @@ pub(crate) fn comment(
     ))
 }
 
-/// The entry that turns a tag on or off, behind earlier entries of the same bulk.
+/// Returns the entry that turns a tag on or off, after earlier entries of the same bulk.
 pub(crate) fn tag(
     live: &Live,
     stamp: &Stamp,

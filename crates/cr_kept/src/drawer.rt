@@ -8,7 +8,11 @@ use std::alloc::{AllocError, Global};
 use std::marker::Model;
 use std::sync::ledger::Ledger;
 
-/// The values of one paper, in their order. Contracts see them, and for how many more there is room.
+/// The values of one paper, in their order.
+///
+/// # Model
+///
+/// Them, and for how many more there is room.
 #[derive(Drop)]
 pub struct Drawer<V> {
     values: Vec<V>,
@@ -24,7 +28,11 @@ impl<V> Model for Drawer<V> {
 }
 
 impl<V: Drop> Drawer<V> {
-    /// No values; takes no memory.
+    /// Creates one without values.
+    ///
+    /// # Cost
+    ///
+    /// Takes no memory.
     pub fn new(alloc: Global) -> Drawer<V>
         ensures { result.values ≡ [] }
     {
@@ -33,14 +41,22 @@ impl<V: Drop> Drawer<V> {
         }
     }
 
-    /// How many there are. Reads none.
+    /// Returns how many there are.
+    ///
+    /// # Cost
+    ///
+    /// Reads none.
     pub fn count(&self) -> usize
         ensures { result ≡ length self.now.values }
     {
         self.values.len()
     }
 
-    /// The values, to be read: a step for each. Takes no memory.
+    /// Returns the values, to be read: a step for each.
+    ///
+    /// # Cost
+    ///
+    /// Takes no memory.
     pub fn values<L: Ledger>(&self, steps: &mut Steps<L>) -> &[V]
         ensures values { result.now ≡ self.now.values }
         ensures steps { Takes (length self.now.values) steps.old steps.new }
@@ -49,7 +65,11 @@ impl<V: Drop> Drawer<V> {
         &self.values
     }
 
-    /// The value at an index, and none past the last. A step where there is one.
+    /// Returns the value at an index, and none past the last.
+    ///
+    /// # Cost
+    ///
+    /// A step where there is one.
     pub fn get<L: Ledger>(&self, index: usize, steps: &mut Steps<L>) -> Option<&V>
         ensures value { option_copied result ≡ slice_get self.now.values index }
         ensures steps { TakesAtMost 1 steps.old steps.new }
@@ -60,8 +80,12 @@ impl<V: Drop> Drawer<V> {
         Some(value)
     }
 
-    /// Takes the memory for so many more values, where it is taken for at least as many more as there are; an
-    /// error only for lack of memory, and the values are the same either way.
+    /// Takes the memory for so many more values, if it is taken for at least as many more as there are. The values
+    /// don't change.
+    ///
+    /// # Errors
+    ///
+    /// If memory runs out.
     pub fn room(&mut self, count: usize) -> Result<(), AllocError>
         ensures ok { OnOk result (count ≤ self.new.room) }
         ensures same { self.new.values ≡ self.old.values }
@@ -70,7 +94,11 @@ impl<V: Drop> Drawer<V> {
         self.values.reserve(count)
     }
 
-    /// One more value, for which there is room, behind the others; takes no memory.
+    /// Adds a value, for which there is room, after the others.
+    ///
+    /// # Cost
+    ///
+    /// Takes no memory.
     pub fn push(&mut self, value: V)
         requires { 0 < self.old.room }
         ensures values { self.new.values ≡ self.old.values ++ value ∷ [] }
@@ -79,7 +107,7 @@ impl<V: Drop> Drawer<V> {
         self.values.push_reserved(value);
     }
 
-    /// Another value at an index, in the place of the one there.
+    /// Replaces the value at an index.
     pub fn set(&mut self, index: usize, value: V)
         requires { index < length self.old.values }
         ensures values { self.new.values ≡ set self.old.values index value }
@@ -88,7 +116,11 @@ impl<V: Drop> Drawer<V> {
         self.values[index] = value;
     }
 
-    /// One more value, for which there is room, at an index: those from there on move behind it. Takes no memory.
+    /// Inserts a value, for which there is room, at an index: those from there on move.
+    ///
+    /// # Cost
+    ///
+    /// Takes no memory.
     pub fn insert(&mut self, index: usize, value: V)
         requires index { index ≤ length self.old.values }
         requires room { 0 < self.old.room }
@@ -101,7 +133,7 @@ impl<V: Drop> Drawer<V> {
         }
     }
 
-    /// The values without the one at an index: those behind it move up.
+    /// Removes the value at an index: those after it move up.
     pub fn remove(&mut self, index: usize)
         requires { index < length self.old.values }
         ensures values { self.new.values ≡ remove self.old.values index }

@@ -13,11 +13,12 @@ use std::alloc::{AllocError, Global};
 use std::marker::Model;
 use std::sync::ledger::Ledger;
 
-/// Values of papers: each paper's own stand together, in the order in which they came, and are found by its
-/// number. A paper without values costs the place of a drawer, of 24 bytes, up to the last one that has some.
+/// Values of papers: each paper's own are kept together, in the order in which they came, and are found by its number.
+/// A paper without values costs the place of a drawer, of 24 bytes, up to the last one that has some.
 ///
-/// Contracts see the values of all papers, paper by paper, and by the paper's number for how many more of its
-/// values there is room.
+/// # Model
+///
+/// The values of all papers, paper by paper, and by the paper's number for how many more of its values there is room.
 #[derive(Drop)]
 pub struct Files<V> {
     alloc: Global,
@@ -35,7 +36,11 @@ impl<V> Model for Files<V> {
 }
 
 impl<V: Drop> Files<V> {
-    /// No values; takes no memory.
+    /// Creates one without values.
+    ///
+    /// # Cost
+    ///
+    /// Takes no memory.
     pub fn new(alloc: Global) -> Files<V>
         ensures { result.files ≡ [] }
     {
@@ -45,7 +50,11 @@ impl<V: Drop> Files<V> {
         }
     }
 
-    /// How many values the paper has. Reads none of them.
+    /// Returns how many values the paper has.
+    ///
+    /// # Cost
+    ///
+    /// Reads none of them.
     pub fn count_of(&self, paper: PaperNo) -> usize
         ensures { result ≡ length (filed_of paper self.now.files) }
     {
@@ -55,8 +64,12 @@ impl<V: Drop> Files<V> {
         }
     }
 
-    /// The values of the paper, in the order in which they came, to be read: a step for each. They are found by
-    /// number; takes no memory.
+    /// Returns the values of the paper, in the order in which they came, to be read: a step for each. They are found
+    /// by number.
+    ///
+    /// # Cost
+    ///
+    /// Takes no memory.
     pub fn of_paper<L: Ledger>(&self, paper: PaperNo, steps: &mut Steps<L>) -> &[V]
         ensures values { result.now ≡ filed_of paper self.now.files }
         ensures steps { Takes (length (filed_of paper self.now.files)) steps.old steps.new }
@@ -67,8 +80,11 @@ impl<V: Drop> Files<V> {
         }
     }
 
-    /// The paper's value at an index among those that it has, and none past the last. Found by number, without
-    /// reading another; a step where there is one.
+    /// Returns the paper's value at an index among those that it has, and none past the last.
+    ///
+    /// # Cost
+    ///
+    /// Found by number, without reading another; a step where there is one.
     pub fn get<L: Ledger>(&self, paper: PaperNo, index: usize, steps: &mut Steps<L>) -> Option<&V>
         ensures value { option_copied result ≡ slice_get (filed_of paper self.now.files) index }
         ensures steps { TakesAtMost 1 steps.old steps.new }
@@ -80,8 +96,11 @@ impl<V: Drop> Files<V> {
         }
     }
 
-    /// The paper's last value, and none where it has none. Found by number, without reading another; a step where
-    /// there is one.
+    /// Returns the paper's last value, or `None` if it has none.
+    ///
+    /// # Cost
+    ///
+    /// Found by number, without reading another; a step where there is one.
     pub fn last<L: Ledger>(&self, paper: PaperNo, steps: &mut Steps<L>) -> Option<&V>
         ensures value { option_copied result ≡ last (filed_of paper self.now.files) }
         ensures steps { TakesAtMost 1 steps.old steps.new }
@@ -91,9 +110,12 @@ impl<V: Drop> Files<V> {
         self.get(paper, index, steps)
     }
 
-    /// Takes the memory for so many more values of the paper; an error only for lack of memory, and the values
-    /// are the same either way. Where it takes memory for values at all, it takes it for at least as many more as
-    /// the paper has, so one after the other each costs the same on average.
+    /// Takes the memory for so many more values of the paper. The values don't change. If it takes memory at all, it
+    /// takes it for at least as many more as the paper has, so values that come singly cost the same each on average.
+    ///
+    /// # Errors
+    ///
+    /// If memory runs out.
     pub fn room_of(&mut self, paper: PaperNo, count: usize) -> Result<(), AllocError>
         ensures ok { OnOk result (count ≤ slice_index self.new.rooms paper) }
         ensures same { self.new.files ≡ self.old.files }
@@ -105,8 +127,15 @@ impl<V: Drop> Files<V> {
         drawer.room(count)
     }
 
-    /// Takes the memory for one more value of each of these papers, as often as it is there; an error only for
-    /// lack of memory, and the values are the same either way. Each paper is compared with those before it.
+    /// Takes the memory for one more value of each of these papers, as often as it is there. The values don't change.
+    ///
+    /// # Errors
+    ///
+    /// If memory runs out.
+    ///
+    /// # Cost
+    ///
+    /// Compares each paper with those before it.
     pub fn room(&mut self, papers: &[PaperNo]) -> Result<(), AllocError>
         ensures ok { OnOk result (HasRoom papers.now self.new.rooms) }
         ensures same { self.new.files ≡ self.old.files }
@@ -119,8 +148,11 @@ impl<V: Drop> Files<V> {
         Ok(())
     }
 
-    /// One more value of the paper, for which there is room, behind those that it has. One read by number; takes
-    /// no memory, and moves no value.
+    /// Adds a value of the paper, for which there is room, after those that it has.
+    ///
+    /// # Cost
+    ///
+    /// One read by number. Takes no memory, and moves no value.
     pub fn file(&mut self, paper: PaperNo, value: V)
         requires { 0 < slice_index self.old.rooms paper }
         ensures files { self.new.files ≡ with_filed (filed paper value) self.old.files }
@@ -130,8 +162,11 @@ impl<V: Drop> Files<V> {
         drawer.push(value);
     }
 
-    /// Another value of the paper, in the place of the one at this index among those that it has. One read by
-    /// number; takes no memory.
+    /// Replaces the value of the paper at this index among those that it has.
+    ///
+    /// # Cost
+    ///
+    /// One read by number. Takes no memory.
     pub fn change(&mut self, paper: PaperNo, index: usize, value: V)
         requires { index < length (filed_of paper self.old.files) }
         ensures files { self.new.files ≡ with_changed paper index value self.old.files }
@@ -143,8 +178,11 @@ impl<V: Drop> Files<V> {
         drawer.set(index, value);
     }
 
-    /// One more value of the paper, for which there is room, at this index among those that it has. One read by
-    /// number; takes no memory, and moves those of the paper from there on.
+    /// Inserts a value of the paper, for which there is room, at this index among those that it has.
+    ///
+    /// # Cost
+    ///
+    /// One read by number. Takes no memory, and moves those of the paper from there on.
     pub fn insert(&mut self, paper: PaperNo, index: usize, value: V)
         requires index { index ≤ length (filed_of paper self.old.files) }
         requires room { 0 < slice_index self.old.rooms paper }
@@ -156,7 +194,11 @@ impl<V: Drop> Files<V> {
         drawer.insert(index, value);
     }
 
-    /// The paper's values without the one at this index. One read by number; moves those of the paper behind it.
+    /// Removes the paper's value at this index.
+    ///
+    /// # Cost
+    ///
+    /// One read by number; moves those of the paper after it.
     pub fn remove(&mut self, paper: PaperNo, index: usize)
         requires { index < length (filed_of paper self.old.files) }
         ensures values { self.new.files
@@ -168,7 +210,11 @@ impl<V: Drop> Files<V> {
     }
 }
 
-/// How often the paper is among these. A walk over them.
+/// Returns how often the paper is among these.
+///
+/// # Cost
+///
+/// A walk over them.
 fn times(papers: &[PaperNo], paper: PaperNo) -> usize
     ensures { result ≡ times paper papers.now }
 {
@@ -178,7 +224,11 @@ fn times(papers: &[PaperNo], paper: PaperNo) -> usize
         .count()
 }
 
-/// Fills the drawers up with empty ones, so that one stands at this index; an error only for lack of memory.
+/// Fills the drawers up with empty ones, so that one is at this index.
+///
+/// # Errors
+///
+/// If memory runs out.
 fn fill<V: Drop>(
     drawers: &mut Vec<Drawer<V>>,
     index: usize,

@@ -10,8 +10,12 @@ use std::marker::Model;
 /// How many sums there are at most: one for each user number, and one for 0, which no user has.
 const MOST_SUMS: usize = LAST_NUMBER as usize + 1;
 
-/// A sum for each user, below 4,294,967,296 and 0 at first: her number is the index, and the sums past
-/// the end are 0. Contracts see the sums, and how many fit without taking memory.
+/// A sum for each user, below 4,294,967,296 and 0 at first: their number is the index, and the sums past the end are
+/// 0.
+///
+/// # Model
+///
+/// The sums, and how many fit without taking memory.
 #[derive(Drop)]
 pub struct Sums {
     sums: Vec<u32>,
@@ -27,7 +31,11 @@ impl Model for Sums {
 }
 
 impl Sums {
-    /// Every sum is 0; takes no memory.
+    /// Creates sums that are all 0.
+    ///
+    /// # Cost
+    ///
+    /// Takes no memory.
     pub fn new(alloc: Global) -> Sums
         ensures { result.sums ≡ [] }
     {
@@ -36,7 +44,11 @@ impl Sums {
         }
     }
 
-    /// The sum of a user. One read by number.
+    /// Returns the sum of a user.
+    ///
+    /// # Cost
+    ///
+    /// One read by number.
     pub fn of(&self, user: UserNo) -> u64
         ensures value { result ≡ slice_index self.now.sums user }
         ensures few { result < 4294967296 }
@@ -47,8 +59,11 @@ impl Sums {
         }
     }
 
-    /// Takes the memory for the sums of all users, 40,000 bytes; an error only for lack of memory,
-    /// and the sums are the same either way.
+    /// Takes the memory for the sums of all users, 40,000 bytes. The sums don't change.
+    ///
+    /// # Errors
+    ///
+    /// If memory runs out.
     pub fn make_room(&mut self) -> Result<(), AllocError>
         ensures ok { OnOk result (10000 ≤ self.new.capacity) }
         ensures same { self.new.sums ≡ self.old.sums }
@@ -57,7 +72,11 @@ impl Sums {
         self.sums.reserve(MOST_SUMS.saturating_sub(self.sums.len()))
     }
 
-    /// This much more for a user, where there is room for all; takes no memory.
+    /// Adds this much to a user's sum; there is room for all.
+    ///
+    /// # Cost
+    ///
+    /// Takes no memory.
     pub fn add(&mut self, user: UserNo, more: u64)
         requires room { 10000 ≤ self.old.capacity }
         requires few { slice_index self.old.sums user + more < 4294967296 }
@@ -70,7 +89,7 @@ impl Sums {
     }
 }
 
-/// Fills the sums up with zeros, so that one stands at this index, for which there is room.
+/// Fills the sums up with zeros, so that one is at this index, for which there is room.
 fn fill(sums: &mut Vec<u32>, index: usize)
     requires { index < vec_capacity sums.old }
     ensures items { sums.new.items ≡ sums.old.items ++ replicate (index + 1 - length sums.old.items) 0 }

@@ -1,4 +1,31 @@
 //! The lock.
+//!
+//! # A turn, step by step
+//!
+//! The mutex is empty: it is the door at which passes wait. Of the atomic table ([`atomic_table`]), `ticket` is the
+//! next ticket to be drawn, `serving` the one served, `count` the history's length. The slot has the value, or nothing
+//! while a turn has it.
+//!
+//! 1. **wait** for the mutex, and lock it. The pass has drawn nothing yet, so no other waits for it to run.
+//! 2. **draw**: add 1 to `ticket`. The pass holds the ticket that it found, which no other ever will.
+//! 3. **look**: load `serving` until it is the pass's ticket. The value is then the pass's: it has seen the whole
+//!    history. Tickets are drawn under the mutex, and the turn before served this one before it unlocked, so the first
+//!    look finds it.
+//! 4. **take**: exchange the slot for an empty one.
+//! 5. **act**: what the caller does with the value. It may append to the list and let the fault counter rise.
+//! 6. **give**: exchange the slot for the value, before any pass learns of the turn.
+//! 7. **note**: add the number of new entries to `count`. At this one step the history grows. It comes before the
+//!    next, since the next pass must see the history with this group.
+//! 8. **next**: add 1 to `serving`. From here on the pass may not touch slot or count.
+//! 9. **unlock** the mutex. A running thread that comes to it goes on, or a sleeping one is woken.
+//!
+//! The proofs use only the table: they would hold without the mutex, which is there for speed. Without it a pass that
+//! drew a ticket and then slept would keep all others from the value; with it a ticket is served as soon as it is
+//! drawn. A waiting pass looks at the mutex a few times, then sleeps; one that slept twice asks to go first, which
+//! makes long waits rare.
+//!
+//! Splitting or joining passes is one step on `ticket`, which doesn't change: one pass's knowledge is copied, or that
+//! of two is put together.
 ghost use Rattle.std.specs.Prelude.{◌≡◌, ℕ, Some, None, ◌+◌, ◌-◌, ◌/◌, ◌^◌, ◌<◌, ◌≤◌};
 ghost use Rattle.std.specs.Prelude.{◌⊎◌, [], ◌∷◌, List, length, IfOk, IfErr, IfSome, MatchResult};
 ghost use Rattle.std.specs.Fn.{FnOnceReturnsAtMut, FnOnceTakesAtMut};
@@ -49,8 +76,10 @@ type Board<T> = Shared<
 
 /// One value, with which passes take turns.
 ///
-/// Contracts see which `lock` it is, and the value that it was made with, `first`. Threads share it by reference; what
-/// each of them knows is in its [`Pass`]. The crate's page tells a turn step by step.
+/// # Model
+///
+/// Which `lock` it is, and the value that it was made with, `first`. Threads share it by reference; what each of them
+/// knows is in its [`Pass`]. The crate's page tells a turn step by step.
 #[derive(Drop)]
 pub struct HistoryLock<T: Stands> {
     table: Table<Option<T>, PassState<T, T::Entry, T::Root>, Snapshot<T>, HistoryRule<T>, Global>,
@@ -70,7 +99,7 @@ impl<T: Stands> Model for HistoryLock<T> {
     ghost invariant = { λ l. (l.table.shared.table_id.words ≡ 3) × (l.table.shared.table_id.slots ≡ 1) };
 }
 
-/// The table's one slot, with the value in it; or, without memory, the value.
+/// Returns the table's one slot, with the value in it; or, without memory, the value.
 fn one_slot<T>(alloc: Global, value: T) -> Result<Vec<Option<T>, Global>, T>
     ensures ok { IfOk result (λ v. v.items ≡ Some value ∷ []) }
     ensures err { IfErr result (λ x. x ≡ value) }
@@ -85,9 +114,9 @@ fn one_slot<T>(alloc: Global, value: T) -> Result<Vec<Option<T>, Global>, T>
     }
 }
 
-/// Draws a ticket, looks until it is served, and takes the value. The pass has then seen what it stands for.
+/// Draws a ticket, looks until it is served, and takes the value. The pass has then seen its history.
 ///
-/// Behind the gate the first look finds the ticket served. The proof knows nothing of the gate, so it looks again.
+/// Behind the mutex the first look finds the ticket served. The proof knows nothing of the mutex, so it looks again.
 fn wait_and_take<T: Stands, R: Wait>(
     rt: &R,
     shared: &Board<T>,
@@ -117,8 +146,12 @@ fn wait_and_take<T: Stands, R: Wait>(
 }
 
 impl<T: Stands> HistoryLock<T> {
-    /// A lock round the value, and its first pass. That pass has share 64, no turns, and has seen what the value
-    /// stands for. Without memory the value comes back.
+    /// Returns a lock round the value, and its first pass. That pass has share 64, no turns, and has seen the value's
+    /// history.
+    ///
+    /// # Errors
+    ///
+    /// The value, if memory runs out.
     pub fn new(alloc: Global, value: T) -> Result<(HistoryLock<T>, Pass<T>), (AllocError, T)>
         ensures { MatchResult result
             (λ made. (made.0.first ≡ value) × (made.1 ≡ first_pass made.0.lock value (T.list value)))
@@ -150,7 +183,11 @@ impl<T: Stands> HistoryLock<T> {
         }
     }
 
-    /// How many turns the pass has made; of a joined one the greater count of the two. It reads one number.
+    /// Returns how many turns the pass has made; of a joined one the greater count of the two.
+    ///
+    /// # Cost
+    ///
+    /// It reads one number.
     pub fn turns(&self, pass: &Pass<T>) -> u64
         requires { pass.now.lock ≡ self.now.lock }
         ensures { result ≡ pass.now.turns }
@@ -158,8 +195,8 @@ impl<T: Stands> HistoryLock<T> {
         pass.turns
     }
 
-    /// Waits until the gate is open, and shuts it. While it finds it shut it lets other threads run, whoever shut it
-    /// among them, and sleeps only where it is shut for longer: to wake a sleeper costs more than most turns.
+    /// Waits for the mutex, and locks it. While it is locked, other threads may run, the one that locked it among
+    /// them; it sleeps only if that takes longer, since waking a sleeper costs more than most turns.
     fn pass_gate<R: Wait>(&self, rt: &R) -> MutexGuard<'_, ()> {
         for _ in 0..LOOKS {
             if let Some(gate) = self.gate.try_lock() {
@@ -170,21 +207,22 @@ impl<T: Stands> HistoryLock<T> {
         self.gate.lock(rt)
     }
 
-    /// Waits until it is this pass's turn, calls the act on the value, and gives what the act answers.
+    /// Waits until it is this pass's turn, calls the act on the value, and returns what the act answers.
     ///
-    /// The act is lent a value `x` that stands for a history which begins with what the pass had seen, and leaves a
-    /// value `y`. It may only append to the list, may not lower the count of faults, and leaves the root as it was.
-    /// What it promises of `x`, `y` and its answer holds. The pass has then seen what `y` stands for, and its turns are
-    /// longer by one: the length of the history at `x`, what was added, by how much the count of faults rose, and the
-    /// mark, set exactly where it rose or stands at its last value. Where the pass has the whole share, so that there
-    /// is no other, `x` is the value that it left in its last turn, or that the lock was made with, unless it was split
-    /// or joined since. Beside what the act takes it takes no memory.
+    /// The act is lent a value `x` whose history begins with what the pass had seen, and leaves a value `y`. It may
+    /// only append to the list, may not lower the fault counter, and leaves the root unchanged. What it promises of
+    /// `x`, `y` and its answer holds. The pass has then seen the history of `y`, and its turns are longer by one: the
+    /// length of the history at `x`, what was added, by how much the fault counter rose, and the mark, set exactly if
+    /// it rose or is at its maximum. If the pass has the whole share, so that there is no other, `x` is the value that
+    /// it left in its last turn, or that the lock was made with, unless it was split or joined since.
     ///
     /// A pass makes fewer than 2^40 turns, so all passes together draw fewer tickets than a word can count.
     ///
-    /// A turn that nobody else waits for costs six atomic steps, two of them the gate's, and no system call. One that
-    /// finds the gate shut gives its processor up, 64 times at most before it sleeps there. Where others sleep, it wakes
-    /// one of them at its end.
+    /// # Cost
+    ///
+    /// A turn for which no other pass waits costs six atomic steps, two of them the mutex's, and no system call. One
+    /// that finds the mutex locked yields its processor, 64 times at most before it sleeps. If others sleep, it wakes
+    /// one of them at its end. It takes no memory besides what the act takes.
     pub fn turn<A, F: FnOnce(&mut T) -> A, R: Wait>(&self, rt: &R, pass: &mut Pass<T>, act: F) -> A
         requires own { pass.old.lock ≡ self.now.lock }
         requires few { pass.old.turns < 2 ^ 40 }
@@ -219,10 +257,16 @@ impl<T: Stands> HistoryLock<T> {
         answer
     }
 
-    /// Two passes in place of one: each has half the share, the first one the larger half, and has seen what
+    /// Returns two passes in place of one: each has half the share, the first one the larger half, and has seen what
     /// the pass had seen, with its count of turns. The turns themselves stay with the first one.
     ///
-    /// An error comes exactly where the share is 1, and is the pass as it was. It takes no memory.
+    /// # Errors
+    ///
+    /// The unchanged pass, exactly if the share is 1.
+    ///
+    /// # Cost
+    ///
+    /// Takes no memory.
     pub fn split(&self, pass: Pass<T>) -> Result<(Pass<T>, Pass<T>), Pass<T>>
         requires { pass.lock ≡ self.now.lock }
         ensures { MatchResult result
@@ -252,8 +296,8 @@ impl<T: Stands> HistoryLock<T> {
         Ok((one, other))
     }
 
-    /// One pass in place of two: their shares together, the longer of what they had seen, their turns merged by place,
-    /// and the greater count of turns.
+    /// Joins two passes: their shares together, the longer of what they had seen, their turns merged by place, and the
+    /// greater count of turns.
     ///
     /// The caller learns that one of the two had seen a beginning of what the other had, and that no entry of the
     /// history was added by both.
@@ -283,12 +327,11 @@ impl<T: Stands> HistoryLock<T> {
         }
     }
 
-    /// The value, when all passes are one again.
+    /// Returns the value, when all passes are one again.
     ///
-    /// It stands for what the pass has seen. The groups of the pass's turns, in their order, are what came behind the
-    /// first list, each entry once. The count of faults rose by exactly what it rose in the turns, and so by no less
-    /// than there are marks, unless it ends at its last value. The root is that of the value that the lock was made
-    /// with.
+    /// Its history is what the pass has seen. The groups of the pass's turns, in their order, are what came after the
+    /// first list, each entry once. The fault counter rose by exactly what it rose in the turns, and so by no less
+    /// than there are marks, unless it ends at its maximum. The root is that of the value that the lock was made with.
     pub fn close(self, pass: Pass<T>) -> T
         requires own { pass.lock ≡ self.lock }
         requires whole { pass.share ≡ 64 }

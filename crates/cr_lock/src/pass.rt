@@ -4,13 +4,14 @@ use crate::stands::Stands;
 use atomic_table::Seat;
 use std::marker::Model;
 
-/// The right to turns of one lock, for one thread at a time.
+/// The right to turns of one lock, for one thread at a time. A pass that is dropped takes its share along, so the lock
+/// can no longer be closed.
 ///
-/// Contracts see the `lock` that it is of; its `share` of 64, which `split` halves and `join` adds up; how many
-/// `turns` it has made; the history as it last saw it, `seen`; and its own turns in that history, `mine`, each with
-/// its place, the group that it added, and a mark where the count of faults rose. All but two counts is proof alone.
+/// # Model
 ///
-/// A pass that is dropped takes its share along, so the lock can no longer be closed.
+/// The `lock` that it is of; its `share` of 64, which `split` halves and `join` adds up; how many `turns` it has made;
+/// the history as it last saw it, `seen`; and its own turns in that history, `mine`, each with its place, the group
+/// that it added, and a mark if the fault counter rose. Only two counts exist at run time.
 #[derive(Drop)]
 pub struct Pass<T: Stands> {
     pub(crate) seat: Seat<Option<T>, PassState<T, T::Entry, T::Root>>,

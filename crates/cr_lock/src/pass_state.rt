@@ -7,9 +7,9 @@ pub struct Turn<E> {
     pub place: u64,
     /// What the turn added, in order; empty where it added nothing.
     pub group: LinkedList<E>,
-    /// By how much the value's count of faults rose in the turn.
+    /// By how much the value's fault counter rose in the turn.
     pub rise: u64,
-    /// Whether it rose, or stands at its last value.
+    /// True if it rose, or is at its maximum.
     pub marked: bool,
 }
 
@@ -26,9 +26,9 @@ pub enum Activity<E, R> {
     Holding {
         /// The ticket that it drew.
         ticket: u64,
-        /// The value's count of faults, as it was when the turn began or, once it has noted the turn, as it is.
+        /// The value's fault counter: before its turn is noted that of the turn's beginning, then the present one.
         faults: u64,
-        /// What the value remembers of its beginning, which the turn leaves as it was.
+        /// What the value remembers of its beginning, which the turn doesn't change.
         root: R,
     },
     /// It was just made of two passes, and has not looked yet what the two had in common.

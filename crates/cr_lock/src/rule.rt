@@ -5,8 +5,8 @@ use atomic_table::TableRule;
 use std::marker::PhantomData;
 use std::snapshot::Snapshot;
 
-/// There is one history, of which each pass has seen a beginning and in which its turns stand.
-/// It holds between any two steps. Its key is the value that the lock was made with.
+/// There is one history, of which each pass has seen a beginning and which has its turns. It holds between any two
+/// steps. Its key is the value that the lock was made with.
 pub(crate) struct HistoryRule<T> {
     of: PhantomData<T>,
 }

@@ -1,16 +1,16 @@
 //! What a value under the lock stands for.
 ghost use Rattle.std.specs.Prelude.{◌≡◌, ℕ, List, length};
 
-/// A value that stands for a list, its history, counts its faults, and has a root, which is what it remembers of its
+/// A value that has a list, its history, counts its faults, and has a root, which is what it remembers of its
 /// beginning.
 ///
-/// Turns may append to the list and let the count rise, do nothing else to the two, and leave the root as it was:
-/// [`HistoryLock::turn`](crate::HistoryLock::turn) asks that of what it is given.
+/// Turns may append to the list and let the count rise, do nothing else to the two, and leave the root unchanged:
+/// [`HistoryLock::turn`](crate::HistoryLock::turn) requires that of its act.
 pub trait Stands {
-    /// What the list is made of. Contracts alone speak of it; no value of it is made.
+    /// What the list is made of. Only contracts speak of it; no value of it is made.
     type Entry;
 
-    /// What a value remembers of its beginning. Contracts alone speak of it; no value of it is made.
+    /// What a value remembers of its beginning. Only contracts speak of it; no value of it is made.
     type Root;
 
     // The list that a value stands for.
@@ -22,7 +22,7 @@ pub trait Stands {
     // What a value remembers of its beginning, which stays.
     ghost root: { Self → Self.Root };
 
-    /// The length of the list. It should cost no walk: each turn asks for it twice.
+    /// Returns the length of the list. It should cost no walk: each turn asks for it twice.
     fn entries(&self) -> u64
         ensures { result ≡ length (list self.now) };
 }

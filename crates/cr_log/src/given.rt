@@ -5,7 +5,7 @@ ghost use Rattle.cr_log.specs.Given.{number_given};
 use cr_base::{CommandNumber, Stamped, UserNo};
 use std::hash::{Hash, Hasher};
 
-/// A command number, and the user who gave it: each user has numbers of her own.
+/// A command number, and the user who gave it: each user has numbers of their own.
 #[derive(Clone, Copy)]
 pub(crate) struct GivenNumber {
     pub(crate) user: UserNo,
@@ -49,8 +49,12 @@ impl Hash for GivenNumber {
     }
 }
 
-/// The number under which these entries of one command are found, which is its first entry's; none where the command
-/// had none. Reads the first entry alone.
+/// Returns the number under which these entries of one command are found, which is its first entry's; `None` if the
+/// command had none.
+///
+/// # Cost
+///
+/// Reads only the first entry.
 pub(crate) fn number_given(group: &[Stamped]) -> Option<GivenNumber>
     ensures { result ≡ number_given group.now }
 {

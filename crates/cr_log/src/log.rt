@@ -11,7 +11,7 @@ use indexmap::IndexMap;
 use std::alloc::{AllocError, Global};
 use std::marker::Model;
 
-/// Where the entries of a command stand.
+/// Where the entries of a command are.
 #[derive(Clone, Copy)]
 pub(crate) struct Place {
     /// The place of the first, from 0.
@@ -22,7 +22,9 @@ pub(crate) struct Place {
 
 /// The entries of a history, in order, and an index of the numbers that users gave their commands.
 ///
-/// Contracts see the entries, and for how many more entries and for how many more numbers there is room.
+/// # Model
+///
+/// The entries, and for how many more entries and for how many more numbers there is room.
 #[derive(Drop)]
 pub struct Log {
     entries: Vec<Stamped>,
@@ -48,7 +50,9 @@ impl Model for Log {
 
 /// What was added under one number: its first entry, lent by the log, and how many entries there are.
 ///
-/// Contracts see both.
+/// # Model
+///
+/// Both.
 #[derive(Drop)]
 pub struct KeptEntries<'a> {
     first: &'a Stamped,
@@ -64,14 +68,14 @@ impl<'a> Model for KeptEntries<'a> {
 }
 
 impl<'a> KeptEntries<'a> {
-    /// The first of them.
+    /// Returns the first of them.
     pub fn first(&self) -> &'a Stamped
         ensures { result.now ≡ self.now.first }
     {
         self.first
     }
 
-    /// How many there are.
+    /// Returns how many there are.
     pub fn count(&self) -> u64
         ensures { result ≡ self.now.count }
     {
@@ -80,7 +84,11 @@ impl<'a> KeptEntries<'a> {
 }
 
 impl Log {
-    /// No entries; takes no memory.
+    /// Creates one without entries.
+    ///
+    /// # Cost
+    ///
+    /// Takes no memory.
     pub fn new(alloc: Global) -> Log
         ensures { result.entries ≡ [] }
     {
@@ -90,22 +98,25 @@ impl Log {
         }
     }
 
-    /// The entries, in order.
+    /// Returns the entries, in order.
     pub fn entries(&self) -> &[Stamped]
         ensures { result.now ≡ self.now.entries }
     {
         &self.entries
     }
 
-    /// How many entries there are; reads none.
+    /// Returns how many entries there are; reads none.
     pub fn len(&self) -> u64
         ensures { result ≡ length self.now.entries }
     {
         self.entries.len() as u64
     }
 
-    /// What this user's command of this number added, and none where she gave none that was accepted. One look-up by
-    /// number, and one read; takes no memory.
+    /// Returns what this user's command of this number added, or `None` if the user gave none that was accepted.
+    ///
+    /// # Cost
+    ///
+    /// One look-up by number, and one read. Takes no memory.
     pub fn find(&self, user: UserNo, number: CommandNumber) -> Option<KeptEntries<'_>>
         ensures { result ≡ seen_kept (kept_under user number self.now.entries) }
     {
@@ -116,16 +127,24 @@ impl Log {
         })
     }
 
-    /// Whether this user gave no command of this number that was accepted. One look-up by number; takes no memory.
+    /// Returns whether this user gave no command of this number that was accepted.
+    ///
+    /// # Cost
+    ///
+    /// One look-up by number. Takes no memory.
     pub fn is_unused(&self, user: UserNo, number: CommandNumber) -> bool
         ensures { IsTrue result ↔ IsUnused self.now.entries user number }
     {
         self.find(user, number).is_none()
     }
 
-    /// Takes the memory that the entries of one command need, and where the command has a number that for its place;
-    /// an error only for lack of memory. The entries are the same either way. Where there was too little room for the
-    /// entries, there is room for as many as an eighth of those kept, or for these where they are more.
+    /// Takes the memory that the entries of one command need, and where the command has a number that for its place.
+    /// The entries don't change. Where there was too little room for the entries, there is room for as many as an
+    /// eighth of those kept, or for these where they are more.
+    ///
+    /// # Errors
+    ///
+    /// If memory runs out.
     pub fn room(&mut self, group: &[Stamped]) -> Result<(), AllocError>
         ensures ok { OnOk result (HasRoom self.new group.now) }
         ensures same { self.new.entries ≡ self.old.entries }
@@ -140,8 +159,12 @@ impl Log {
         }
     }
 
-    /// Adds the entries of one command behind the others. There is room for them, they have one stamp, and where it
-    /// has a number, nothing was added under that. Takes no memory, and moves the entries; one write by number.
+    /// Adds the entries of one command after the others. There is room for them, they have one stamp, and where it has
+    /// a number, nothing was added under that.
+    ///
+    /// # Cost
+    ///
+    /// Takes no memory, and moves the entries; one write by number.
     pub fn append(&mut self, mut group: Vec<Stamped>)
         requires room { HasRoom self.old group.items }
         requires follows { MayFollow self.old.entries group.items }
@@ -164,9 +187,12 @@ impl Log {
     }
 }
 
-/// Takes memory for so many more entries where it lacks, and then for at least an eighth of those there, so that spare
-/// room stays small and each entry is moved some nine times at most while the history grows. An error only for lack of
-/// memory; the entries are the same either way.
+/// Takes memory for so many more entries if it lacks, and then for at least an eighth of those there, so that spare
+/// room stays small and each entry is moved some nine times at most while the history grows. The entries don't change.
+///
+/// # Errors
+///
+/// If memory runs out.
 fn make_room(entries: &mut Vec<Stamped>, count: usize) -> Result<(), AllocError>
     ensures ok { OnOk result (vec_len entries.new + count ≤ vec_capacity entries.new) }
     ensures same { entries.new.items ≡ entries.old.items }

@@ -13,7 +13,7 @@ use std::time::Instant;
 struct Seat(Mutex<Option<Arc<SharedStream, Global>>>);
 
 impl Seat {
-    /// Takes a connection, or lets it go. The reaper alone looks at the seat meanwhile, for a moment.
+    /// Takes a connection, or lets it go. Only the reaper looks at the seat meanwhile, for a moment.
     fn set(&self, stream: Option<Arc<SharedStream, Global>>) {
         'looking: for _ in 0..u64::MAX {
             if let Some(mut seated) = self.0.try_lock() {
@@ -24,8 +24,8 @@ impl Seat {
         }
     }
 
-    /// From when on its connection gives way; nothing where it has none, or one whose worker doesn't wait. It isn't
-    /// waited for: nothing, too, while a connection takes the seat or lets it go.
+    /// Returns when its connection gives way; nothing if it has none, or one whose worker doesn't wait. It never
+    /// waits: nothing, too, while a connection takes the seat or lets it go.
     fn due(&self) -> Option<u64> {
         let seated = self.0.try_lock()?;
         match &*seated {
@@ -34,7 +34,7 @@ impl Seat {
         }
     }
 
-    /// Has its connection give way, where that is due from then on still. Whether it does.
+    /// Has its connection give way, if that is due from then on still. Returns whether it does.
     fn give_way(&self, due: u64) -> bool {
         let Some(seated) = self.0.try_lock() else {
             return false;
@@ -62,7 +62,7 @@ pub(crate) struct Crowd {
     is_shut: AtomicBool,
 }
 
-/// So many seats without a connection.
+/// Returns so many seats without a connection.
 fn seats(alloc: Global, count: u32) -> Result<Vec<Seat>, AllocError> {
     let mut seats = Vec::with_capacity(alloc, count as usize)?;
     'making: for _ in 0..count {
@@ -72,7 +72,7 @@ fn seats(alloc: Global, count: u32) -> Result<Vec<Seat>, AllocError> {
 }
 
 impl Crowd {
-    /// So many doors of the listener, none of which waits for a connection yet.
+    /// Returns so many doors of the listener, none of which waits for a connection yet.
     pub(crate) fn new(
         alloc: Global,
         listener: TcpListener,
@@ -89,39 +89,40 @@ impl Crowd {
         })
     }
 
-    /// One door more waits for a connection.
+    /// Counts one door more that waits for a connection.
     pub(crate) fn begin_wait(&self) {
         self.free.fetch_add(1, Ordering::SeqCst);
     }
 
-    /// One door fewer does.
+    /// Counts one door fewer that waits.
     pub(crate) fn end_wait(&self) {
         self.free.fetch_sub(1, Ordering::SeqCst);
     }
 
-    /// Whether a door waits for a connection.
+    /// Returns whether a door waits for a connection.
     pub(crate) fn has_free(&self) -> bool {
         self.free.load(Ordering::SeqCst) > 0
     }
 
-    /// The connection of this door that may give way, if one may.
+    /// Sets the connection of this door that may give way, if one may.
     pub(crate) fn seat(&self, door: usize, stream: Option<Arc<SharedStream, Global>>) {
         if let Some(seat) = self.seats.get(door) {
             seat.set(stream);
         }
     }
 
-    /// One connection more was taken.
+    /// Counts one connection more that was taken.
     pub(crate) fn took(&self) {
         self.taken.fetch_add(1, Ordering::SeqCst);
     }
 
-    /// How many connections were taken.
+    /// Returns how many connections were taken.
     pub(crate) fn taken(&self) -> u64 {
         self.taken.load(Ordering::SeqCst)
     }
 
-    /// The seat whose connection has been due longest at this moment, and since when it is; nothing where none is due.
+    /// Returns the seat whose connection has been due longest at this moment, and since when it is; nothing where none
+    /// is due.
     fn longest_due(&self, now: u64) -> Option<(&Seat, u64)> {
         let mut longest = None;
         let mut since = now;
@@ -136,7 +137,7 @@ impl Crowd {
         longest
     }
 
-    /// Has the connection give way that has been due longest at this moment. Whether one does.
+    /// Has the connection give way that has been due longest at this moment. Returns whether one does.
     pub(crate) fn make_room(&self, now: u64) -> bool {
         match self.longest_due(now) {
             Some((seat, due)) => seat.give_way(due),
@@ -144,12 +145,12 @@ impl Crowd {
         }
     }
 
-    /// No door will wait again.
+    /// Notes that no door will wait again.
     pub(crate) fn shut(&self) {
         self.is_shut.store(true, Ordering::SeqCst);
     }
 
-    /// Whether the gates were shut.
+    /// Returns whether the gates were shut.
     pub(crate) fn is_shut(&self) -> bool {
         self.is_shut.load(Ordering::SeqCst)
     }

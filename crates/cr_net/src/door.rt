@@ -24,7 +24,9 @@ const PAUSE: u64 = 100;
 
 /// Takes the connections of one worker.
 ///
-/// Contracts see how many it has still to give, whether one is out, and the count of faults.
+/// # Model
+///
+/// How many it has still to give, whether one is out, and the fault counter.
 #[derive(Drop)]
 pub struct TcpDoor {
     rt: HostRuntime,
@@ -49,7 +51,7 @@ impl Model for TcpDoor {
 }
 
 impl TcpDoor {
-    /// The door of this number, which gives `left` connections.
+    /// Returns the door of this number, which gives `left` connections.
     pub(crate) fn new(
         rt: &HostRuntime,
         alloc: Global,
@@ -72,14 +74,14 @@ impl TcpDoor {
         }
     }
 
-    /// How often it has failed.
+    /// Returns how often it has failed.
     pub(crate) fn faults(&self) -> u64
         ensures { result ≡ self.now.faults }
     {
         self.faults
     }
 
-    /// What its fault was.
+    /// Returns what its fault was.
     pub(crate) fn reason(&self) -> Option<Reason> {
         self.reason
     }
@@ -90,7 +92,7 @@ impl TcpDoor {
         Ok(stream)
     }
 
-    /// The same, again where a signal broke it off.
+    /// Accepts a connection, retrying if a signal interrupts.
     fn accept(&self) -> io::Result<TcpStream> {
         for _ in 0..AGAIN {
             let answer = self.accept_once();
@@ -107,7 +109,7 @@ impl TcpDoor {
         ends_of(&self.rt, self.alloc, stream, self.crowd.opened)
     }
 
-    /// The same, tried again for a minute where it fails.
+    /// Takes a connection, trying again for a minute if it fails.
     fn take_patiently(&self) -> Result<Ends, ErrorKind> {
         let mut last = ErrorKind::Other;
         for _ in 0..TRIES {
@@ -120,7 +122,7 @@ impl TcpDoor {
         Err(last)
     }
 
-    /// It is counted among the doors that wait, unless it has none to give.
+    /// Counts this door among those that wait, unless it has none to give.
     fn begin_wait(&mut self)
         ensures { self.new ≡ self.old }
     {
@@ -130,7 +132,7 @@ impl TcpDoor {
         }
     }
 
-    /// It is counted no more.
+    /// Counts this door no more among those that wait.
     fn end_wait(&mut self)
         ensures { self.new ≡ self.old }
     {
@@ -140,7 +142,7 @@ impl TcpDoor {
         }
     }
 
-    /// A connection was taken. It may give way to another, as long as this door can take one more.
+    /// Notes that a connection was taken. It may give way to another, as long as this door can take one more.
     fn note(&mut self, shared: Arc<SharedStream, Global>)
         ensures { self.new ≡ self.old }
     {
@@ -167,8 +169,8 @@ impl Door for TcpDoor {
 
     ghost log = { λ _. None };
 
-    /// Where a connection can't be taken, as when no descriptor is left, it is tried again for a minute. Its clock is
-    /// the system's, with no fault counted.
+    /// Takes a connection. If none can be taken, as when no descriptor is left, it tries again for a minute. The
+    /// connection's clock is the system's, with no fault counted.
     fn next(&mut self) -> NextConnection<TcpSource, TcpSink, SystemClock<HostRuntime>> {
         if self.left == 0 {
             return NextConnection::Done;
@@ -196,7 +198,7 @@ impl Door for TcpDoor {
         }
     }
 
-    /// The client still sees the last answer, for which this takes a second at most.
+    /// Gives the connection back. The client still sees the last answer, which takes a second at most.
     fn give_back(&mut self, source: TcpSource, _sink: TcpSink, _clock: SystemClock<HostRuntime>) {
         source.end();
         self.crowd.seat(self.number, None);

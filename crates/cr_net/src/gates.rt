@@ -18,9 +18,11 @@ use std::sync::Arc;
 use std::thread::Threads;
 use std::time::Instant;
 
-/// Listens at loopback addresses alone, since secrets travel in the clear.
+/// Listens only at loopback addresses, since secrets travel in the clear.
 ///
-/// Contracts see the count of faults.
+/// # Model
+///
+/// The fault counter.
 #[derive(Drop)]
 pub struct TcpGates<R> {
     rt: HostRuntime,
@@ -40,7 +42,8 @@ impl<R> Model for TcpGates<R> {
 }
 
 impl<R> TcpGates<R> {
-    /// Gates with no fault counted. They listen nowhere yet. `handle` is the same runtime, as one that may start threads.
+    /// Creates gates with no fault counted, which listen nowhere yet. `handle` is the same runtime, as one that may
+    /// start threads.
     pub fn new(rt: &HostRuntime, handle: R) -> TcpGates<R>
         ensures { result ≡ 0 }
     {
@@ -53,7 +56,7 @@ impl<R> TcpGates<R> {
         }
     }
 
-    /// What the last fault was, of the gates or of a door that they took back; none where nothing has failed.
+    /// Returns what the last fault was, of the gates or of a door that they took back; `None` if nothing has failed.
     pub fn reason(&self) -> Option<Reason> {
         self.reason
     }
@@ -78,7 +81,7 @@ impl<R> TcpGates<R> {
 }
 
 impl<R: Threads> TcpGates<R> {
-    /// One door for each worker, all of which take connections of one listener.
+    /// Returns one door for each worker, all of which take connections of one listener.
     fn doors(
         &self,
         alloc: Global,
@@ -99,7 +102,7 @@ impl<R: Threads> TcpGates<R> {
         Ok(doors)
     }
 
-    /// Has a thread look who waits, from here on. Whether one could be made.
+    /// Has a thread look who waits, from here on. Returns whether one could be made.
     fn watch(&mut self, crowd: &Arc<Crowd, Global>) -> bool
         ensures { self.new ≡ self.old }
     {
@@ -118,7 +121,7 @@ impl<R: Threads> TcpGates<R> {
     }
 }
 
-/// What so many doors of the listener share.
+/// Returns what so many doors of the listener share.
 fn crowd_of(
     alloc: Global,
     listener: TcpListener,
@@ -163,7 +166,7 @@ impl<R: Threads> Gates for TcpGates<R> {
 
     ghost asked = { λ _. None };
 
-    /// Port 0 asks for any. Where it listens is told in a line on standard error. An address that isn't
+    /// Listens at the address; port 0 asks for any port. A line on standard error says where. An address that isn't
     /// loopback, or that can't be listened at, is a fault.
     fn open(
         &mut self,

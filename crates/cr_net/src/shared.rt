@@ -4,7 +4,7 @@ use std::net::{Shutdown, TcpStream};
 use std::sync::atomic::{AtomicBool, AtomicU64, Ordering};
 use std::time::{Duration, Instant};
 
-/// What stands for the moment from which on a connection gives way, while its worker doesn't wait for its client.
+/// Written for the moment from which on a connection gives way, while its worker doesn't wait for its client.
 const BUSY: u64 = 0;
 
 /// A connection's stream, and what is known of it.
@@ -20,7 +20,7 @@ pub(crate) struct SharedStream {
 }
 
 impl SharedStream {
-    /// A stream that was opened just now.
+    /// Returns a stream that was opened just now.
     pub(crate) fn new(stream: TcpStream, opened: Instant) -> SharedStream {
         SharedStream {
             stream,
@@ -35,23 +35,23 @@ impl SharedStream {
         self.answered.store(true, Ordering::SeqCst);
     }
 
-    /// Whether a piece went out whole since this was last asked.
+    /// Returns whether a piece went out whole since this was last asked.
     pub(crate) fn take_answer(&self) -> bool {
         self.answered.swap(false, Ordering::SeqCst)
     }
 
-    /// Its worker waits for its client from here on, and gives way once so much time has passed since the gates were
-    /// opened.
+    /// Notes that its worker waits for its client from here on; it gives way once so much time has passed since the
+    /// gates were opened.
     pub(crate) fn begin_wait(&self, due: Duration) {
         self.due.store(millis(due).max(BUSY + 1), Ordering::SeqCst);
     }
 
-    /// Its worker waits no more.
+    /// Notes that its worker waits no more.
     pub(crate) fn end_wait(&self) {
         self.due.store(BUSY, Ordering::SeqCst);
     }
 
-    /// From when on it gives way; nothing where its worker doesn't wait for its client.
+    /// Returns when it gives way; nothing if its worker doesn't wait for its client.
     pub(crate) fn due(&self) -> Option<u64> {
         match self.due.load(Ordering::SeqCst) {
             BUSY => None,
@@ -59,8 +59,8 @@ impl SharedStream {
         }
     }
 
-    /// Ends what its worker waits for, where that is still the wait that gives way from then on, as the end of what the
-    /// client sends. What came before is read first. Whether it was ended.
+    /// Ends what its worker waits for, if that is still the wait that gives way from then on, as the end of what the
+    /// client sends. What came before is read first. Returns whether it was ended.
     pub(crate) fn give_way(&self, due: u64) -> bool {
         self.due
             .compare_exchange(due, BUSY, Ordering::SeqCst, Ordering::SeqCst)
@@ -69,7 +69,7 @@ impl SharedStream {
     }
 }
 
-/// The milliseconds of a span, as many as a word holds.
+/// Returns the milliseconds of a span, as many as a word holds.
 pub(crate) fn millis(span: Duration) -> u64 {
     u64::try_from(span.as_millis()).unwrap_or(u64::MAX)
 }

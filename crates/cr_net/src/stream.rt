@@ -17,7 +17,7 @@ use std::time::{Duration, Instant};
 /// The milliseconds for a request to come whole, and for an answer to go.
 const LIMIT: u64 = 60_000;
 
-/// The milliseconds for a byte to come behind an answer.
+/// The milliseconds for a byte to come after an answer.
 const IDLE: u64 = 5_000;
 
 /// The milliseconds for the client to see the last answer.
@@ -26,13 +26,13 @@ const ENDING: u64 = 1_000;
 /// The milliseconds after which a connection gives way to one that waits, where no byte came yet.
 const SILENT: u64 = 1_000;
 
-/// The same, where none came since the last answer.
+/// The milliseconds for a byte to come, if none came since the last answer.
 const BETWEEN: u64 = 100;
 
-/// The same, from when a request isn't whole with what came first of it.
+/// The milliseconds from when a request isn't whole with what came first of it.
 const WITHIN: u64 = 10_000;
 
-/// How many bytes are dropped at most behind the last answer.
+/// How many bytes are dropped at most after the last answer.
 const MOST_DROPPED: usize = 8_388_608;
 
 /// How many of them at a time.
@@ -46,8 +46,8 @@ pub(crate) struct Ends {
     pub(crate) shared: Arc<SharedStream, Global>,
 }
 
-/// The two ends of a stream that was opened just now, at gates that were opened then. An error for lack of memory, or
-/// where the stream is gone; then it is closed.
+/// Returns the two ends of a stream that was opened just now, at gates that were opened then. An error for lack of
+/// memory, or where the stream is gone; then it is closed.
 pub(crate) fn ends_of(
     rt: &HostRuntime,
     alloc: Global,
@@ -68,7 +68,9 @@ pub(crate) fn ends_of(
 /// What one end works with: what the two share, the time for what it is at, for how long a wait goes on where others
 /// wait for a connection, and its faults.
 ///
-/// Contracts see the count of faults.
+/// # Model
+///
+/// The fault counter.
 #[derive(Drop)]
 struct Half {
     rt: HostRuntime,
@@ -90,7 +92,7 @@ impl Model for Half {
 }
 
 impl Half {
-    /// An end whose time has not begun, with no fault counted.
+    /// Returns an end whose time has not begun, with no fault counted.
     fn new(rt: &HostRuntime, shared: Arc<SharedStream, Global>, patience: Option<Span>) -> Half
         ensures { result ≡ 0 }
     {
@@ -104,8 +106,12 @@ impl Half {
         }
     }
 
-    /// How long the socket is to be told to wait at most: what is left of the time, which begins here where it
-    /// hasn't. Nothing where it was told that last, which spares a system call. An error past the time's end.
+    /// Returns how long the socket is to be told to wait at most: what is left of the time, which begins here if it
+    /// hasn't. Nothing if it was told that last, which spares a system call.
+    ///
+    /// # Errors
+    ///
+    /// If the time is over.
     fn to_tell(&mut self, now: Instant) -> io::Result<Option<Duration>>
         ensures { self.new ≡ self.old }
     {
@@ -130,7 +136,7 @@ impl Half {
         }
     }
 
-    /// One read, for which there is no more time than is left.
+    /// Reads once, for no longer than the time left.
     fn read_once(&mut self, buf: &mut [u8]) -> io::Result<usize>
         ensures size { ReadsAtMost result buf.new }
         ensures length { length buf.new ≡ length buf.old }
@@ -146,7 +152,7 @@ impl Half {
         got
     }
 
-    /// The same, again where a signal broke it off.
+    /// Reads once, retrying if a signal interrupts.
     fn read_on(&mut self, buf: &mut [u8]) -> io::Result<usize>
         ensures size { ReadsAtMost result buf.new }
         ensures length { length buf.new ≡ length buf.old }
@@ -161,7 +167,7 @@ impl Half {
         self.read_once(buf)
     }
 
-    /// One write, for which there is no more time than is left.
+    /// Writes once, for no longer than the time left.
     fn write_once(&mut self, piece: &[u8]) -> io::Result<usize>
         ensures size { WritesAtMost result piece.now }
         ensures same { self.new ≡ self.old }
@@ -173,7 +179,7 @@ impl Half {
         (&self.shared.stream).write(piece)
     }
 
-    /// The same, again where a signal broke it off.
+    /// Writes once, retrying if a signal interrupts.
     fn write_on(&mut self, piece: &[u8]) -> io::Result<usize>
         ensures size { WritesAtMost result piece.now }
         ensures same { self.new ≡ self.old }
@@ -196,7 +202,7 @@ impl Half {
     }
 }
 
-/// What a read is told as: 0 bytes are the end, and each `Err` is a fault.
+/// Returns what a read is told as: 0 bytes are the end, and each `Err` is a fault.
 fn read_step(got: &io::Result<usize>) -> ReadStep
     ensures { result ≡ read_step got.now }
 {
@@ -207,8 +213,8 @@ fn read_step(got: &io::Result<usize>) -> ReadStep
     }
 }
 
-/// What a write of a piece of so many bytes is told as: each `Err` is a fault, and so is one that took nothing of a
-/// piece that isn't empty.
+/// Returns what a write of a piece of so many bytes is told as: each `Err` is a fault, and so is one that took nothing
+/// of a piece that isn't empty.
 fn write_step(took: &io::Result<usize>, len: usize) -> WriteStep
     ensures { result ≡ write_step took.now len }
 {
@@ -219,7 +225,7 @@ fn write_step(took: &io::Result<usize>, len: usize) -> WriteStep
     }
 }
 
-/// What a client sends. Each request has 60 seconds to come whole, from the first read behind the last answer on; but
+/// What a client sends. Each request has 60 seconds to come whole, from the first read after the last answer on; but
 /// where that read finds nothing for 5 seconds, it fails, as one does past the 60. So a client that keeps its
 /// connection and asks nothing holds its worker for 5 seconds. A connection's first request has the 60. A span may
 /// take some seconds more than is said.
@@ -228,7 +234,9 @@ fn write_step(took: &io::Result<usize>, len: usize) -> WriteStep
 /// byte came for a second since the connection was taken, or for a tenth of one since the last answer, or where a
 /// request isn't whole ten seconds after the read that began it. What came before is read first.
 ///
-/// Contracts see the count of faults.
+/// # Model
+///
+/// The fault counter.
 #[derive(Drop)]
 pub struct TcpSource {
     half: Half,
@@ -254,7 +262,7 @@ impl TcpSource {
         }
     }
 
-    /// A read, for which there is no more time than the request has left.
+    /// Returns a read, for which there is no more time than the request has left.
     fn read_in_time(&mut self, buf: &mut [u8]) -> io::Result<usize>
         ensures size { ReadsAtMost result buf.new }
         ensures length { length buf.new ≡ length buf.old }
@@ -301,7 +309,7 @@ impl Source for TcpSource {
 
     ghost read_gives = { λ _ _ _. ⊤ };
 
-    /// Each `Err` is a fault, the end of the time among them.
+    /// Returns each `Err` is a fault, the end of the time among them.
     fn read(&mut self, buf: &mut [u8]) -> ReadStep {
         let step = read_step(&self.read_in_time(buf));
         match step {
@@ -316,7 +324,9 @@ impl Source for TcpSource {
 /// What a client is sent. Each answer has 60 seconds to go, all its pieces together, from its first write on; past
 /// that a write fails, at most a second later.
 ///
-/// Contracts see the count of faults.
+/// # Model
+///
+/// The fault counter.
 #[derive(Drop)]
 pub struct TcpSink {
     half: Half,
@@ -343,7 +353,7 @@ impl Sink for TcpSink {
 
     ghost faults = { λ s. s };
 
-    /// Each `Err` is a fault, the end of the time among them, and so is a write that takes nothing.
+    /// Returns each `Err` is a fault, the end of the time among them, and so is a write that takes nothing.
     fn write(&mut self, piece: &[u8]) -> WriteStep {
         let step = write_step(&self.half.write_on(piece), piece.len());
         match step {
@@ -356,7 +366,7 @@ impl Sink for TcpSink {
         step
     }
 
-    /// From the next write on the answer's time is measured.
+    /// Measures the answer's time from the next write on.
     fn begin_answer(&mut self) {
         self.half.time.reset();
     }

@@ -6,7 +6,7 @@ use std::time::{Duration, Instant};
 /// How often a wait that a signal broke off is waited again.
 pub(crate) const AGAIN: u32 = 16;
 
-/// Whether a signal broke a wait off, as when the process was stopped and goes on.
+/// Returns whether a signal broke a wait off, as when the process was stopped and goes on.
 pub(crate) fn is_broken_off<T>(answer: &io::Result<T>) -> bool {
     match answer {
         Ok(_) => false,
@@ -22,7 +22,7 @@ pub(crate) struct Span {
 }
 
 impl Span {
-    /// A span of so many milliseconds, not begun.
+    /// Returns a span of so many milliseconds, not begun.
     pub(crate) fn new(millis: u64) -> Span {
         Span {
             limit: Duration::from_millis(millis),
@@ -30,37 +30,37 @@ impl Span {
         }
     }
 
-    /// As before it began.
+    /// Resets the time to how it was before it began.
     pub(crate) fn reset(&mut self) {
         self.start = None;
     }
 
-    /// So many milliseconds from its begin on, which stays.
+    /// Sets its length in milliseconds from its beginning, which stays.
     pub(crate) fn lasts(&mut self, millis: u64) {
         self.limit = Duration::from_millis(millis);
     }
 
-    /// When it began: now, where it hadn't.
+    /// Returns when it began: now, if it hadn't.
     fn start(&mut self, now: Instant) -> Instant {
         let start = self.start.unwrap_or(now);
         self.start = Some(start);
         start
     }
 
-    /// The seconds that are left of it now, a part of one counted whole, 0 past its end.
+    /// Returns the seconds that are left of it now, a part of one counted whole, 0 past its end.
     pub(crate) fn left(&mut self, now: Instant) -> u64 {
         let start = self.start(now);
         whole_seconds(self.limit.saturating_sub(now.duration_since(start)))
     }
 
-    /// How long after that moment it ends.
+    /// Returns how long after that moment it ends.
     pub(crate) fn end(&mut self, since: Instant, now: Instant) -> Duration {
         let start = self.start(now);
         self.limit.saturating_add(start.duration_since(since))
     }
 }
 
-/// The seconds of a span, a part of one counted whole.
+/// Returns the seconds of a span, a part of one counted whole.
 fn whole_seconds(span: Duration) -> u64 {
     let part = if span.subsec_nanos() > 0 { 1 } else { 0 };
     span.as_secs().saturating_add(part)

@@ -2,7 +2,7 @@
 
 use std::fmt::Display;
 
-/// Whether appends are taken.
+/// The state of appends: taken, or refused.
 #[derive(Clone, Copy, PartialEq, Eq)]
 enum Appends {
     /// The last one was kept.
@@ -29,7 +29,7 @@ impl Drop for Notices {
 }
 
 impl Notices {
-    /// Nobody is told.
+    /// Returns notices that go nowhere.
     pub fn none() -> Notices {
         Notices {
             rt: None,
@@ -37,7 +37,7 @@ impl Notices {
         }
     }
 
-    /// Standard error is told.
+    /// Returns notices that go to standard error.
     pub fn on_standard_error(rt: &HostRuntime) -> Notices {
         Notices {
             rt: Some(*rt),
@@ -45,14 +45,14 @@ impl Notices {
         }
     }
 
-    /// An append was kept.
+    /// Notes that an append was kept.
     pub fn taken(&mut self) {
         if self.has_changed(Appends::Taken) {
             self.tell_taken();
         }
     }
 
-    /// An append was refused for this reason; none is taken any more where it `is_over`.
+    /// Notes that an append was refused for this reason; none is taken any more if it `is_over`.
     pub fn refused<R: Display>(&mut self, reason: &R, is_over: bool) {
         if is_over {
             if self.has_changed(Appends::Over) {
@@ -63,7 +63,7 @@ impl Notices {
         }
     }
 
-    /// Whether this is other than what was told last; it is noted as told.
+    /// Returns whether this is other than what was told last; it is noted as told.
     fn has_changed(&mut self, appends: Appends) -> bool {
         let changed = appends != self.appends;
         self.appends = appends;

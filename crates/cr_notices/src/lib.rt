@@ -1,5 +1,5 @@
-//! What standard error is told of a store while the program runs: where appends begin to be refused and where they are
-//! taken again, and which files others may read.
+//! The lines on standard error about a store while the program runs: when appends begin to be refused and are taken
+//! again, and which files others may read. Nothing is proved of them; `checks/store.py` tests them.
 #![tactic(auto)]
 
 mod access;

@@ -13,11 +13,13 @@ use std::alloc::{AllocError, Global};
 use std::marker::Model;
 use std::sync::ledger::Ledger;
 
-/// A map from pairs of a paper and a user to a small value, in the order of papers, then users, and
-/// the same pairs in the order of users, then papers.
+/// A map from pairs of a paper and a user to a small value, in the order of papers, then users, and once more in the
+/// order of users, then papers.
 ///
-/// Contracts see the ties in the order of papers, and by the paper's number and by the user's for how many more
-/// there is room. That the pairs by user are the same is true of every such map.
+/// # Model
+///
+/// The ties in the order of papers, and by the paper's number and by the user's for how many more there is room. Every
+/// such map has equal pairs in both orders.
 #[derive(Drop)]
 pub struct IndexedPairs<V> {
     by_paper: PairRows<V>,
@@ -40,7 +42,11 @@ impl<V> Model for IndexedPairs<V> {
 }
 
 impl<V: Copy + Drop> IndexedPairs<V> {
-    /// No ties; takes no memory.
+    /// Creates one without ties.
+    ///
+    /// # Cost
+    ///
+    /// Takes no memory.
     pub fn new(alloc: Global) -> IndexedPairs<V>
         ensures { result.ties ≡ [] }
     {
@@ -50,8 +56,11 @@ impl<V: Copy + Drop> IndexedPairs<V> {
         }
     }
 
-    /// Whether the pair is there. The paper's ties are found by number; a step for each of them at which the binary
-    /// search looks.
+    /// Returns whether the pair is there.
+    ///
+    /// # Cost
+    ///
+    /// The paper's ties are found by number; a step for each of them at which the binary search looks.
     pub fn contains<L: Ledger>(&self, pair: &Pair, steps: &mut Steps<L>) -> bool
         ensures value { result ≡ has_pair pair.now self.now.ties }
         ensures steps { Halves (length (ties_of ByPaper pair.now.paper self.now.ties)) steps.old steps.new }
@@ -59,8 +68,11 @@ impl<V: Copy + Drop> IndexedPairs<V> {
         self.by_paper.contains(pair, steps)
     }
 
-    /// What is kept of the pair, and none where it isn't there. The paper's ties are found by number; a step for each
-    /// of them at which the binary search looks.
+    /// Returns what is kept of the pair, or `None` if it isn't there.
+    ///
+    /// # Cost
+    ///
+    /// The paper's ties are found by number; a step for each of them at which the binary search looks.
     pub fn value<L: Ledger>(&self, pair: &Pair, steps: &mut Steps<L>) -> Option<V>
         ensures value { result ≡ tie_value pair.now self.now.ties }
         ensures steps { Halves (length (ties_of ByPaper pair.now.paper self.now.ties)) steps.old steps.new }
@@ -68,8 +80,12 @@ impl<V: Copy + Drop> IndexedPairs<V> {
         self.by_paper.value(pair, steps)
     }
 
-    /// The ties of a paper, in the order of their users' numbers, to be read. They are found by number; a step for
-    /// each. Takes no memory.
+    /// Returns the ties of a paper, in the order of their users' numbers, to be read. They are found by number; a step
+    /// for each.
+    ///
+    /// # Cost
+    ///
+    /// Takes no memory.
     pub fn of_paper<L: Ledger>(&self, paper: PaperNo, steps: &mut Steps<L>) -> &[Tie<V>]
         ensures ties { result.now ≡ ties_of ByPaper paper self.now.ties }
         ensures order { IsAscending ByPaper self.now.ties }
@@ -78,8 +94,12 @@ impl<V: Copy + Drop> IndexedPairs<V> {
         self.by_paper.of(paper.number(), steps)
     }
 
-    /// The pairs of a user, in the order of their papers' numbers, to be read. They are found by number; a step for
-    /// each. Takes no memory.
+    /// Returns the pairs of a user, in the order of their papers' numbers, to be read. They are found by number; a
+    /// step for each.
+    ///
+    /// # Cost
+    ///
+    /// Takes no memory.
     pub fn of_user<L: Ledger>(&self, user: UserNo, steps: &mut Steps<L>) -> &[Tie<()>]
         ensures papers { map (λ t. t.pair.paper) result.now ≡ papers_tied_to user self.now.ties }
         ensures rising { IsRising (papers_tied_to user self.now.ties) }
@@ -89,8 +109,15 @@ impl<V: Copy + Drop> IndexedPairs<V> {
     }
 
     /// Takes the memory for one more tie of each of these pairs, as often as its paper is there and as often as its
-    /// user is; an error only for lack of memory, and the ties are the same either way. Each pair is compared with
-    /// those before it, twice.
+    /// user is. The ties don't change.
+    ///
+    /// # Errors
+    ///
+    /// If memory runs out.
+    ///
+    /// # Cost
+    ///
+    /// Each pair is compared with those before it, twice.
     pub fn room(&mut self, pairs: &[Pair]) -> Result<(), AllocError>
         ensures papers { OnOk result (HasRoom (map (major ByPaper) pairs.now) self.new.by_paper_rooms) }
         ensures users { OnOk result (HasRoom (map (major ByUser) pairs.now) self.new.by_user_rooms) }
@@ -102,9 +129,12 @@ impl<V: Copy + Drop> IndexedPairs<V> {
         self.by_user.room(pairs)
     }
 
-    /// Puts the tie in, for which there is room, in the place of the one of its pair where that is there. Two reads
-    /// by number, two binary searches, and a move of the paper's ties and of the user's behind a new one; takes no
-    /// memory.
+    /// Puts the tie in, for which there is room, in the place of the one of its pair if that is there.
+    ///
+    /// # Cost
+    ///
+    /// Two reads by number, two binary searches, and a move of the paper's ties and of the user's after a new one.
+    /// Takes no memory.
     pub fn insert(&mut self, tie: Tie<V>)
         requires paper { 0 < slice_index self.old.by_paper_rooms tie.pair.paper }
         requires user { 0 < slice_index self.old.by_user_rooms tie.pair.user }
@@ -119,8 +149,12 @@ impl<V: Copy + Drop> IndexedPairs<V> {
         self.by_paper.insert(tie);
     }
 
-    /// Takes the pair out; nothing changes where it wasn't there. Two reads by number, two binary searches, and a
-    /// move of the paper's ties and of the user's behind it; its room is kept.
+    /// Takes the pair out; nothing changes if it wasn't there.
+    ///
+    /// # Cost
+    ///
+    /// Two reads by number, two binary searches, and a move of the paper's ties and of the user's after it; its room
+    /// is kept.
     pub fn remove(&mut self, pair: &Pair)
         ensures ties { self.new.ties ≡ without_pair pair.now self.old.ties }
         ensures papers { IsNoLess self.old.by_paper_rooms self.new.by_paper_rooms }

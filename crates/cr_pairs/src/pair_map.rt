@@ -11,10 +11,12 @@ use std::cmp::Ordering;
 use std::marker::Model;
 use std::sync::ledger::Ledger;
 
-/// A map from pairs of a paper and a user to a small value, in ascending order: by paper, then user,
-/// or by user, then paper. With the value `()` it is a set of pairs.
+/// A map from pairs of a paper and a user to a small value, in ascending order: by paper, then user, or by user, then
+/// paper. With the value `()` it is a set of pairs.
 ///
-/// Contracts see the order, the ties in it, and for how many more there is room.
+/// # Model
+///
+/// The order, the ties in it, and for how many more there is room.
 #[derive(Drop)]
 pub(crate) struct PairMap<V> {
     order: Order,
@@ -33,7 +35,7 @@ impl<V> Model for PairMap<V> {
     ghost invariant = { λ s. IsAscending s.order s.ties.items };
 }
 
-/// How the first pair stands to the second in this order.
+/// Compares two pairs in this order.
 fn compare(order: Order, first: &Pair, second: &Pair) -> Ordering
     ensures { result ≡ pair_order order first.now second.now }
 {
@@ -42,7 +44,11 @@ fn compare(order: Order, first: &Pair, second: &Pair) -> Ordering
 }
 
 impl<V: Copy + Drop> PairMap<V> {
-    /// No ties; takes no memory.
+    /// Creates one without ties.
+    ///
+    /// # Cost
+    ///
+    /// Takes no memory.
     pub(crate) fn new(alloc: Global, order: Order) -> PairMap<V>
         ensures order { result.order ≡ order }
         ensures ties { result.ties ≡ [] }
@@ -53,7 +59,11 @@ impl<V: Copy + Drop> PairMap<V> {
         }
     }
 
-    /// Whether the pair is there. A step for each tie at which the binary search looks.
+    /// Returns whether the pair is there.
+    ///
+    /// # Cost
+    ///
+    /// A step for each tie at which the binary search looks.
     pub(crate) fn contains<L: Ledger>(&self, pair: &Pair, steps: &mut Steps<L>) -> bool
         ensures value { result ≡ has_pair pair.now self.now.ties }
         ensures steps { Halves (length self.now.ties) steps.old steps.new }
@@ -61,8 +71,11 @@ impl<V: Copy + Drop> PairMap<V> {
         self.index_of(pair, steps).is_ok()
     }
 
-    /// What is kept of the pair, and none where it isn't there. A step for each tie at which the binary search looks,
-    /// the one that it finds among them.
+    /// Returns what is kept of the pair, or `None` if it isn't there.
+    ///
+    /// # Cost
+    ///
+    /// A step for each tie at which the binary search looks, the one that it finds among them.
     pub(crate) fn value<L: Ledger>(&self, pair: &Pair, steps: &mut Steps<L>) -> Option<V>
         ensures value { result ≡ tie_value pair.now self.now.ties }
         ensures steps { Halves (length self.now.ties) steps.old steps.new }
@@ -73,7 +86,11 @@ impl<V: Copy + Drop> PairMap<V> {
         }
     }
 
-    /// The ties, in order, to be read: a step for each. Takes no memory.
+    /// Returns the ties, in order, to be read: a step for each.
+    ///
+    /// # Cost
+    ///
+    /// Takes no memory.
     pub(crate) fn ties<L: Ledger>(&self, steps: &mut Steps<L>) -> &[Tie<V>]
         ensures ties { result.now ≡ self.now.ties }
         ensures steps { Takes (length self.now.ties) steps.old steps.new }
@@ -82,8 +99,11 @@ impl<V: Copy + Drop> PairMap<V> {
         &self.ties
     }
 
-    /// Takes the memory for so many more ties; an error only for lack of memory, and the ties are the
-    /// same either way.
+    /// Takes the memory for so many more ties. The ties don't change.
+    ///
+    /// # Errors
+    ///
+    /// If memory runs out.
     pub(crate) fn room(&mut self, count: usize) -> Result<(), AllocError>
         ensures ok { OnOk result (count ≤ self.new.room) }
         ensures order { self.new.order ≡ self.old.order }
@@ -93,8 +113,11 @@ impl<V: Copy + Drop> PairMap<V> {
         self.ties.reserve(count)
     }
 
-    /// Puts the tie in, for which there is room, in the place of the one of its pair where that is
-    /// there. One binary search, and a move of the ties behind a new one; takes no memory.
+    /// Puts the tie in, for which there is room, in the place of the one of its pair if that is there.
+    ///
+    /// # Cost
+    ///
+    /// One binary search, and a move of the ties after a new one. Takes no memory.
     pub(crate) fn insert(&mut self, tie: Tie<V>)
         requires { 0 < self.old.room }
         ensures order { self.new.order ≡ self.old.order }
@@ -110,8 +133,11 @@ impl<V: Copy + Drop> PairMap<V> {
         }
     }
 
-    /// Takes the pair out; nothing changes where it wasn't there. One binary search, and a move of
-    /// the ties behind it; its room is kept.
+    /// Takes the pair out; nothing changes if it wasn't there.
+    ///
+    /// # Cost
+    ///
+    /// One binary search, and a move of the ties after it; its room is kept.
     pub(crate) fn remove(&mut self, pair: &Pair)
         ensures order { self.new.order ≡ self.old.order }
         ensures ties { self.new.ties ≡ without_pair pair.now self.old.ties }
@@ -123,7 +149,7 @@ impl<V: Copy + Drop> PairMap<V> {
         }
     }
 
-    /// The pair's place among these, to be compared: one step.
+    /// Returns the pair's place among these, to be compared: one step.
     fn compared_at<L: Ledger>(&self, index: usize, pair: &Pair, steps: &mut Steps<L>) -> Ordering
         requires { index < length self.now.ties }
         ensures order { (d : Tie V) → result
@@ -134,8 +160,11 @@ impl<V: Copy + Drop> PairMap<V> {
         compare(self.order, &self.ties[index].pair, pair)
     }
 
-    /// Where the pair stands, or else where it would stand: a binary search, with a step for each tie at which it
-    /// looks.
+    /// Returns the index of the pair, or else where it would be.
+    ///
+    /// # Cost
+    ///
+    /// A binary search, with a step for each tie at which it looks.
     fn index_of<L: Ledger>(&self, pair: &Pair, steps: &mut Steps<L>) -> Result<usize, usize>
         ensures index { MatchResult result (IsAt pair.now self.now.ties)
             (IsGapFor self.now.order pair.now self.now.ties) }

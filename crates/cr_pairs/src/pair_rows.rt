@@ -11,13 +11,13 @@ use std::alloc::{AllocError, Global};
 use std::marker::Model;
 use std::sync::ledger::Ledger;
 
-/// A map from pairs of a paper and a user to a small value, in ascending order: by paper, then user, or by user,
-/// then paper. With the value `()` it is a set of pairs. The ties of each paper, or of each user, are a row of
-/// their own, found by its number; a number without ties costs the place of a row, of 32 bytes, up to the last one
-/// that has some.
+/// A map from pairs of a paper and a user to a small value, in ascending order: by paper, then user, or by user, then
+/// paper. With the value `()` it is a set of pairs. The ties of each paper, or of each user, are a row of their own,
+/// found by its number; a number without ties costs the place of a row, of 32 bytes, up to the last one that has some.
 ///
-/// Contracts see the order, the ties of all rows in it, and by the number for how many more ties with it there is
-/// room.
+/// # Model
+///
+/// The order, the ties of all rows in it, and by the number for how many more ties with it there is room.
 #[derive(Drop)]
 pub struct PairRows<V> {
     alloc: Global,
@@ -38,7 +38,11 @@ impl<V> Model for PairRows<V> {
 }
 
 impl<V: Copy + Drop> PairRows<V> {
-    /// No ties; takes no memory.
+    /// Creates one without ties.
+    ///
+    /// # Cost
+    ///
+    /// Takes no memory.
     pub fn new(alloc: Global, order: Order) -> PairRows<V>
         ensures order { result.order ≡ order }
         ensures ties { result.ties ≡ [] }
@@ -50,15 +54,18 @@ impl<V: Copy + Drop> PairRows<V> {
         }
     }
 
-    /// The order.
+    /// Returns the order.
     pub fn order(&self) -> Order
         ensures { result ≡ self.now.order }
     {
         self.order
     }
 
-    /// Whether the pair is there. Its row is found by number; a step for each tie of it at which the binary search
-    /// looks.
+    /// Returns whether the pair is there.
+    ///
+    /// # Cost
+    ///
+    /// Its row is found by number; a step for each tie of it at which the binary search looks.
     pub fn contains<L: Ledger>(&self, pair: &Pair, steps: &mut Steps<L>) -> bool
         ensures value { result ≡ has_pair pair.now self.now.ties }
         ensures steps { Halves (length (ties_of self.now.order (major self.now.order pair.now) self.now.ties))
@@ -70,8 +77,11 @@ impl<V: Copy + Drop> PairRows<V> {
         }
     }
 
-    /// What is kept of the pair, and none where it isn't there. Its row is found by number; a step for each tie of it
-    /// at which the binary search looks.
+    /// Returns what is kept of the pair, or `None` if it isn't there.
+    ///
+    /// # Cost
+    ///
+    /// Its row is found by number; a step for each tie of it at which the binary search looks.
     pub fn value<L: Ledger>(&self, pair: &Pair, steps: &mut Steps<L>) -> Option<V>
         ensures value { result ≡ tie_value pair.now self.now.ties }
         ensures steps { Halves (length (ties_of self.now.order (major self.now.order pair.now) self.now.ties))
@@ -83,8 +93,12 @@ impl<V: Copy + Drop> PairRows<V> {
         }
     }
 
-    /// The ties with this number, in order, to be read: a paper's in the order of their users' numbers, or a user's
-    /// in that of their papers'. They are found by number; a step for each. Takes no memory.
+    /// Returns the ties with this number, in order, to be read: a paper's in the order of their users' numbers, or a
+    /// user's in that of their papers'. They are found by number; a step for each.
+    ///
+    /// # Cost
+    ///
+    /// Takes no memory.
     pub fn of<L: Ledger>(&self, number: u64, steps: &mut Steps<L>) -> &[Tie<V>]
         ensures ties { result.now ≡ ties_of self.now.order number self.now.ties }
         ensures order { IsAscending self.now.order self.now.ties }
@@ -96,9 +110,12 @@ impl<V: Copy + Drop> PairRows<V> {
         }
     }
 
-    /// Takes the memory for so many more ties with this number; an error only for lack of memory, and the ties are
-    /// the same either way. Where it takes memory for ties at all, it takes it for at least as
-    /// many more as the number has, so one after the other each costs the same on average.
+    /// Takes the memory for so many more ties with this number. The ties don't change. If it takes memory at all, it
+    /// takes it for at least as many more as the number has, so ties that come singly cost the same each on average.
+    ///
+    /// # Errors
+    ///
+    /// If memory runs out.
     pub fn room_of(&mut self, number: u64, count: usize) -> Result<(), AllocError>
         ensures ok { OnOk result (count ≤ slice_index self.new.rooms number) }
         ensures order { self.new.order ≡ self.old.order }
@@ -111,8 +128,16 @@ impl<V: Copy + Drop> PairRows<V> {
         row.room(count)
     }
 
-    /// Takes the memory for one more tie of each of these pairs, as often as its number is there; an error only for
-    /// lack of memory, and the ties are the same either way. Each pair is compared with those before it.
+    /// Takes the memory for one more tie of each of these pairs, as often as its number is there. The ties don't
+    /// change.
+    ///
+    /// # Errors
+    ///
+    /// If memory runs out.
+    ///
+    /// # Cost
+    ///
+    /// Each pair is compared with those before it.
     pub fn room(&mut self, pairs: &[Pair]) -> Result<(), AllocError>
         ensures ok { OnOk result (HasRoom (map (major self.old.order) pairs.now) self.new.rooms) }
         ensures order { self.new.order ≡ self.old.order }
@@ -128,8 +153,11 @@ impl<V: Copy + Drop> PairRows<V> {
         Ok(())
     }
 
-    /// Puts the tie in, for which there is room, in the place of the one of its pair where that is there. One read
-    /// by number, a binary search in the row, and a move of the row's ties behind a new one; takes no memory.
+    /// Puts the tie in, for which there is room, in the place of the one of its pair if that is there.
+    ///
+    /// # Cost
+    ///
+    /// One read by number, a binary search in the row, and a move of the row's ties after a new one. Takes no memory.
     pub fn insert(&mut self, tie: Tie<V>)
         requires { 0 < slice_index self.old.rooms (major self.old.order tie.pair) }
         ensures order { self.new.order ≡ self.old.order }
@@ -140,8 +168,11 @@ impl<V: Copy + Drop> PairRows<V> {
         row.insert(tie);
     }
 
-    /// Takes the pair out; nothing changes where it wasn't there. One read by number, a binary search in the row,
-    /// and a move of the row's ties behind it; its room is kept.
+    /// Takes the pair out; nothing changes if it wasn't there.
+    ///
+    /// # Cost
+    ///
+    /// One read by number, a binary search in the row, and a move of the row's ties after it; its room is kept.
     pub fn remove(&mut self, pair: &Pair)
         ensures order { self.new.order ≡ self.old.order }
         ensures ties { self.new.ties ≡ without_pair pair.now self.old.ties }
@@ -155,7 +186,11 @@ impl<V: Copy + Drop> PairRows<V> {
     }
 }
 
-/// How many of these pairs have this number. A walk over them.
+/// Returns how many of these pairs have this number.
+///
+/// # Cost
+///
+/// A walk over them.
 fn times(pairs: &[Pair], order: Order, number: u64) -> usize
     ensures { result ≡ times number (map (major order) pairs.now) }
 {
@@ -166,7 +201,11 @@ fn times(pairs: &[Pair], order: Order, number: u64) -> usize
         .count()
 }
 
-/// Fills the rows up with empty ones, so that one stands at this index; an error only for lack of memory.
+/// Fills the rows up with empty ones, so that one is at this index.
+///
+/// # Errors
+///
+/// If memory runs out.
 fn fill<V: Copy + Drop>(
     rows: &mut Vec<PairMap<V>>,
     index: usize,

@@ -4,7 +4,15 @@ ghost use Rattle.std.specs.Prelude.{◌≡◌, IfOk, map};
 use cr_base::{Pair, PaperNo};
 use std::alloc::{AllocError, Global};
 
-/// The paper of each of the pairs, in their order. A walk over them; an error only for lack of memory.
+/// Returns the paper of each of the pairs, in their order.
+///
+/// # Errors
+///
+/// If memory runs out.
+///
+/// # Cost
+///
+/// A walk over them.
 pub fn papers_of(alloc: Global, pairs: &[Pair]) -> Result<Vec<PaperNo>, AllocError>
     ensures { IfOk result (λ papers. papers.items ≡ map (λ pair. pair.paper) pairs.now) }
 {

@@ -29,12 +29,14 @@ pub const MOST_OWN_PAPERS: u64 = 20;
 /// The most bytes that one user may upload, in all versions of all papers.
 pub const MOST_OWN_BYTES: u64 = 67_108_864;
 
-/// What was submitted: at most 9,999 papers by their numbers, each with its last texts and all that was
-/// uploaded to it; how many papers each user submitted, at most 20; and how many bytes she uploaded, at
-/// most 67,108,864. Who a paper's authors are stands in the table of ties.
+/// What was submitted: at most 9,999 papers by their numbers, each with its last texts and all that was uploaded to
+/// it; how many papers each user submitted, at most 20; and how many bytes the user uploaded, at most 67,108,864. Who
+/// a paper's authors are is in the table of ties.
 ///
-/// Contracts see the papers by number, the uploads paper by paper and the sums, and for how many more papers, and
-/// uploads to each paper, there is room.
+/// # Model
+///
+/// The papers by number, the uploads paper by paper and the sums, and for how many more papers, and uploads to each
+/// paper, there is room.
 #[derive(Drop)]
 pub struct Papers {
     alloc: Global,
@@ -67,7 +69,11 @@ impl Model for Papers {
 
 /// What is read.
 impl Papers {
-    /// No papers; takes no memory.
+    /// Creates one without papers.
+    ///
+    /// # Cost
+    ///
+    /// Takes no memory.
     pub fn new(alloc: Global) -> Papers
         ensures { result.papers ≡ no_papers }
     {
@@ -80,7 +86,7 @@ impl Papers {
         }
     }
 
-    /// How many papers were submitted, 0 to 9,999; reads no paper.
+    /// Returns how many papers were submitted, 0 to 9,999; reads no paper.
     pub fn count(&self) -> u64
         ensures value { result ≡ paper_count self.now.papers }
         ensures few { result ≤ 9999 }
@@ -88,30 +94,40 @@ impl Papers {
         self.papers.len() as u64
     }
 
-    /// How many papers a user has submitted, 0 to 20. One read by number.
+    /// Returns how many papers a user has submitted, 0 to 20.
+    ///
+    /// # Cost
+    ///
+    /// One read by number.
     pub fn count_of_user(&self, user: UserNo) -> u64
         ensures { result ≡ own_count self.now.papers (Some user) }
     {
         self.submitted.of(user)
     }
 
-    /// How many bytes a user has uploaded, in all versions of all papers, 0 to 67,108,864. One read by
-    /// number.
+    /// Returns how many bytes a user has uploaded, in all versions of all papers, 0 to 67,108,864.
+    ///
+    /// # Cost
+    ///
+    /// One read by number.
     pub fn bytes_of_user(&self, user: UserNo) -> u64
         ensures { result ≡ own_bytes self.now.papers (Some user) }
     {
         self.uploaded.of(user)
     }
 
-    /// Whether there is a paper of this number; reads no paper.
+    /// Returns whether there is a paper of this number; reads no paper.
     pub fn has(&self, paper: PaperNo) -> bool
         ensures { result ≡ list_any (λ p. p == paper) (paper_numbers self.now.papers) }
     {
         paper.number() <= self.count()
     }
 
-    /// What is kept of a paper, and none where there is no such paper. Found by number; a step where there is
-    /// one.
+    /// Returns what is kept of a paper, or `None` if there is no such paper.
+    ///
+    /// # Cost
+    ///
+    /// Found by number; a step where there is one.
     pub fn paper_of<L: Ledger>(&self, paper: PaperNo, steps: &mut Steps<L>) -> Option<&Paper>
         ensures value { option_copied result ≡ numbered self.now.papers.papers paper }
         ensures steps { TakesAtMost 1 steps.old steps.new }
@@ -121,8 +137,11 @@ impl Papers {
         Some(paper.get(steps))
     }
 
-    /// The last title that a paper was given, and none where there is no such paper. Found by number; a step
-    /// where there is one.
+    /// Returns the last title that a paper was given, or `None` if there is no such paper.
+    ///
+    /// # Cost
+    ///
+    /// Found by number; a step where there is one.
     pub fn last_title<L: Ledger>(&self, paper: PaperNo, steps: &mut Steps<L>) -> Option<&Text>
         ensures value { option_copied result ≡ title_at self.now.papers paper }
         ensures steps { TakesAtMost 1 steps.old steps.new }
@@ -132,8 +151,11 @@ impl Papers {
         Some(&paper.title)
     }
 
-    /// Whether a paper was withdrawn; false where there is no such paper. Found by number; a step where there is
-    /// one.
+    /// Returns whether a paper was withdrawn; false if there is no such paper.
+    ///
+    /// # Cost
+    ///
+    /// Found by number; a step where there is one.
     pub fn is_withdrawn<L: Ledger>(&self, paper: PaperNo, steps: &mut Steps<L>) -> bool
         ensures value { result ≡ is_withdrawn_at self.now.papers paper }
         ensures steps { TakesAtMost 1 steps.old steps.new }
@@ -148,8 +170,12 @@ impl Papers {
 
 /// What is read of a paper's uploads.
 impl Papers {
-    /// How many versions a paper has, 0 where there is no such paper. They are numbered from 1, so this
-    /// is the last one's number too. Reads none of them.
+    /// Returns how many versions a paper has, 0 if there is no such paper. They are numbered from 1, so this is the
+    /// last one's number too.
+    ///
+    /// # Cost
+    ///
+    /// Reads none of them.
     pub fn version_count(&self, paper: PaperNo) -> u64
         ensures count { result ≡ length (uploads_at self.now.papers paper) }
         ensures numbers { map (λ u. u.version) (uploads_at self.now.papers paper)
@@ -159,8 +185,11 @@ impl Papers {
         self.uploads.count(paper)
     }
 
-    /// The number of a paper's last version, and none where it has none. Found by number; a step where there is
-    /// one.
+    /// Returns the number of a paper's last version, or `None` if it has none.
+    ///
+    /// # Cost
+    ///
+    /// Found by number; a step where there is one.
     pub fn last_version<L: Ledger>(&self, paper: PaperNo, steps: &mut Steps<L>) -> Option<u64>
         ensures value { result ≡ option_map (λ u. u.version) (last (uploads_at self.now.papers paper)) }
         ensures steps { TakesAtMost 1 steps.old steps.new }
@@ -169,8 +198,15 @@ impl Papers {
         self.uploads.last_version(paper, steps)
     }
 
-    /// The numbers of a paper's versions, in ascending order; an error only for lack of memory. Found by number; a
-    /// step for each of the versions.
+    /// Returns the numbers of a paper's versions, in ascending order.
+    ///
+    /// # Errors
+    ///
+    /// If memory runs out.
+    ///
+    /// # Cost
+    ///
+    /// Found by number; a step for each of the versions.
     pub fn versions<L: Ledger>(
         &self,
         alloc: Global,
@@ -183,8 +219,11 @@ impl Papers {
         self.uploads.versions(alloc, paper, steps)
     }
 
-    /// The content of a version of a paper, and none where there is no such version. Found by number; a step where
-    /// there is one.
+    /// Returns the content of a version of a paper, or `None` if there is no such version.
+    ///
+    /// # Cost
+    ///
+    /// Found by number; a step where there is one.
     pub fn content<L: Ledger>(
         &self,
         paper: PaperNo,
@@ -199,8 +238,11 @@ impl Papers {
         self.uploads.content(paper, version, steps)
     }
 
-    /// The content of a paper's last version, and none where it has none. Found by number; a step where there is
-    /// one.
+    /// Returns the content of a paper's last version, or `None` if it has none.
+    ///
+    /// # Cost
+    ///
+    /// Found by number; a step where there is one.
     pub fn last_content<L: Ledger>(&self, paper: PaperNo, steps: &mut Steps<L>) -> Option<&Blob>
         ensures value { option_copied result ≡ option_map (λ u. u.content) (last (uploads_at self.now.papers paper)) }
         ensures steps { TakesAtMost 1 steps.old steps.new }
@@ -212,12 +254,18 @@ impl Papers {
 
 /// What is judged.
 impl Papers {
-    /// The number that a paper submitted now would have, the count of papers plus 1, or the first
-    /// broken rule: `NoUser` where not all of the co-authors named were found, else `WrongPhase` where
-    /// the phase isn't submission, else `Late` where it is too late, else `FullPapers` where 9,999 papers
-    /// were submitted, else `QuotaPapers` where this maker has submitted 20, withdrawn ones counted. `by` is the
-    /// maker's standing, where no paper is named; `late` is what `Stage::is_late` says at the request's moment.
-    /// One read by number; takes no memory.
+    /// Returns the number that a paper submitted now would have, the count of papers plus 1. `by` is the maker's
+    /// standing, where no paper is named; `late` is what `Stage::is_late` says at the request's moment.
+    ///
+    /// # Errors
+    ///
+    /// The first broken rule: `NoUser` if not all of the co-authors named were found, else `WrongPhase` if the phase
+    /// isn't submission, else `Late` if it is too late, else `FullPapers` if 9,999 papers were submitted, else
+    /// `QuotaPapers` if this maker has submitted 20, withdrawn ones counted.
+    ///
+    /// # Cost
+    ///
+    /// One read by number. Takes no memory.
     pub fn judge_submit(
         &self,
         by: &Standing,
@@ -248,11 +296,18 @@ impl Papers {
         Ok(PaperNo::new(self.count() + 1))
     }
 
-    /// Whether the caller may give a paper other texts, or the first broken rule: `NoPaper` where no
-    /// paper of a number was named or there is none of it, else `NotAuthor` where the caller is none of
-    /// its authors, else `WrongPhase` where the phase isn't submission, else `Late` where it is too late,
-    /// else `Withdrawn` where the paper was withdrawn. `by` is the caller's standing at the paper; `late` is what
-    /// `Stage::is_late` says at the request's moment. One read by number at most; takes no memory.
+    /// Checks whether the caller may give a paper other texts. `by` is the caller's standing at the paper; `late` is
+    /// what `Stage::is_late` says at the request's moment.
+    ///
+    /// # Errors
+    ///
+    /// The first broken rule: `NoPaper` if no paper of a number was named or there is none of it, else `NotAuthor` if
+    /// the caller is none of its authors, else `WrongPhase` if the phase isn't submission, else `Late` if it is too
+    /// late, else `Withdrawn` if the paper was withdrawn.
+    ///
+    /// # Cost
+    ///
+    /// One read by number at most. Takes no memory.
     pub fn judge_revise(
         &self,
         by: &Standing,
@@ -267,8 +322,11 @@ impl Papers {
         self.may_change(by, *paper, late)
     }
 
-    /// Whether the caller may withdraw a paper, or the first broken rule: the same as of revising it, with the same
-    /// `by` and `late`.
+    /// Checks whether the caller may withdraw a paper.
+    ///
+    /// # Errors
+    ///
+    /// The first broken rule: that of revising it, with the same `by` and `late`.
     pub fn judge_withdraw(
         &self,
         by: &Standing,
@@ -280,11 +338,17 @@ impl Papers {
         self.judge_revise(by, paper, late)
     }
 
-    /// The number of the version that so many bytes would be, the count of the paper's versions plus 1,
-    /// or the first broken rule: the same as of revising the paper, else `QuotaBytes` where with them
-    /// the maker would have uploaded more than 67,108,864 bytes, in all versions of all papers. `by` is
-    /// the maker's standing at the paper; `late` is what `Stage::is_late` says at the request's moment. Three reads
-    /// by number at most; takes no memory.
+    /// Returns the number of the version that so many bytes would be, the count of the paper's versions plus 1. `by`
+    /// is the maker's standing at the paper; `late` is what `Stage::is_late` says at the request's moment.
+    ///
+    /// # Errors
+    ///
+    /// The first broken rule: that of revising the paper, else `QuotaBytes` if with them the maker would have uploaded
+    /// more than 67,108,864 bytes, in all versions of all papers.
+    ///
+    /// # Cost
+    ///
+    /// Three reads by number at most. Takes no memory.
     pub fn judge_upload(
         &self,
         by: &Standing,
@@ -311,7 +375,7 @@ impl Papers {
         Ok(self.version_count(*paper) + 1)
     }
 
-    /// Whether the caller may change the paper of a number.
+    /// Checks whether the caller may change the paper of a number.
     fn may_change(&self, by: &Standing, paper: PaperNo, late: bool) -> Result<(), Rule>
         ensures { result ≡ judged (revise_checks by.now (named_in self.now.papers (Some paper)) late) tt }
     {
@@ -336,9 +400,16 @@ impl Papers {
 
 /// What entries make of it.
 impl Papers {
-    /// Takes the memory that the entries of one command need, and the first time 80,000 bytes for the
-    /// sums; an error only for lack of memory, and the papers are the same either way. Each paper to which they
-    /// upload is compared with those before it.
+    /// Takes the memory that the entries of one command need, and the first time 80,000 bytes for the sums. The papers
+    /// don't change.
+    ///
+    /// # Errors
+    ///
+    /// If memory runs out.
+    ///
+    /// # Cost
+    ///
+    /// Each paper to which they upload is compared with those before it.
     pub fn room(&mut self, group: &[Stamped]) -> Result<(), AllocError>
         ensures ok { OnOk result (PapersHaveRoom group.now self.new.rooms) }
         ensures same { self.new.papers ≡ self.old.papers }
@@ -351,8 +422,12 @@ impl Papers {
         self.uploads.room(&papers)
     }
 
-    /// One more entry, for which there is room. It is taken whole, since the texts and the content of a
-    /// paper are kept; takes no memory. It costs a few reads by number.
+    /// Applies one more entry, for which there is room. It is taken whole, since the texts and the content of a paper
+    /// are kept.
+    ///
+    /// # Cost
+    ///
+    /// A few reads by number. Takes no memory.
     pub fn apply(&mut self, stamped: Stamped)
         requires room { PapersHaveRoom (stamped ∷ []) self.old.rooms }
         requires fits { PapersFit self.old.papers stamped.stamp.maker stamped.entry }
@@ -400,7 +475,7 @@ impl Papers {
     }
 }
 
-/// The paper to which the entry uploads, if it does.
+/// Returns the paper to which the entry uploads, if it does.
 fn paper_uploaded(stamped: &Stamped) -> Option<PaperNo>
     ensures { result ≡ paper_uploaded stamped.now }
 {
@@ -410,7 +485,7 @@ fn paper_uploaded(stamped: &Stamped) -> Option<PaperNo>
     }
 }
 
-/// The papers to which the entries upload, as often as they do.
+/// Returns the papers to which the entries upload, as often as they do.
 fn papers_uploaded(alloc: Global, group: &[Stamped]) -> Result<Vec<PaperNo>, AllocError>
     ensures { IfOk result (λ papers. papers.items ≡ filter_map paper_uploaded group.now) }
 {

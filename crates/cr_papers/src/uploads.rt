@@ -13,7 +13,11 @@ use std::alloc::{AllocError, Global};
 use std::marker::Model;
 use std::sync::ledger::Ledger;
 
-/// A version of a paper's content. Contracts see it as `Upload`.
+/// A version of a paper's content.
+///
+/// # Model
+///
+/// It as `Upload`.
 #[derive(Drop)]
 pub(crate) struct Version {
     version: u64,
@@ -30,8 +34,10 @@ impl Model for Version {
 
 /// The versions of each paper, in the order in which they were uploaded.
 ///
-/// Contracts see the uploads paper by paper, and for how many more to each paper there is room. A paper's versions
-/// are 1, 2 and so on: that is true of every table.
+/// # Model
+///
+/// The uploads paper by paper, and for how many more to each paper there is room. A paper's versions are 1, 2 and so
+/// on: that is true of every table.
 #[derive(Drop)]
 pub(crate) struct Uploads {
     uploads: Files<Version>,
@@ -50,7 +56,11 @@ impl Model for Uploads {
 
 /// What is read.
 impl Uploads {
-    /// No uploads; takes no memory.
+    /// Creates one without uploads.
+    ///
+    /// # Cost
+    ///
+    /// Takes no memory.
     pub(crate) fn new(alloc: Global) -> Uploads
         ensures { result.uploads ≡ [] }
     {
@@ -59,8 +69,8 @@ impl Uploads {
         }
     }
 
-    /// How many versions a paper has, 0 where there is no such paper. They are numbered from 1, so this
-    /// is the last one's number too. None of them is read.
+    /// Returns how many versions a paper has, 0 if there is no such paper. They are numbered from 1, so this is the
+    /// last one's number too. None of them is read.
     pub(crate) fn count(&self, paper: PaperNo) -> u64
         ensures count { result ≡ length (filed_of paper self.now.uploads) }
         ensures numbers { map (λ u. u.version) (filed_of paper self.now.uploads)
@@ -70,8 +80,11 @@ impl Uploads {
         self.uploads.of_paper(paper, &mut Steps::uncounted()).len() as u64
     }
 
-    /// The number of a paper's last version, and none where it has none. Found by number; a step where there is
-    /// one.
+    /// Returns the number of a paper's last version, or `None` if it has none.
+    ///
+    /// # Cost
+    ///
+    /// Found by number; a step where there is one.
     pub(crate) fn last_version<L: Ledger>(
         &self,
         paper: PaperNo,
@@ -85,8 +98,15 @@ impl Uploads {
         Some(last.version)
     }
 
-    /// The numbers of a paper's versions, in ascending order; an error only for lack of memory. Found by number; a
-    /// step for each of the versions.
+    /// Returns the numbers of a paper's versions, in ascending order.
+    ///
+    /// # Errors
+    ///
+    /// If memory runs out.
+    ///
+    /// # Cost
+    ///
+    /// Found by number; a step for each of the versions.
     pub(crate) fn versions<L: Ledger>(
         &self,
         alloc: Global,
@@ -105,8 +125,8 @@ impl Uploads {
         Ok(Versions::from_vec(numbers))
     }
 
-    /// The version of this number of a paper, and none where there is no such version. Versions are numbered from
-    /// 1, so it is found by number; a step where there is one.
+    /// Returns the version of this number of a paper, or `None` if there is no such version. Versions are numbered
+    /// from 1, so it is found by number; a step where there is one.
     fn version_of<L: Ledger>(
         &self,
         paper: PaperNo,
@@ -124,8 +144,11 @@ impl Uploads {
         uploads.get(paper, (version - 1) as usize, steps)
     }
 
-    /// The content of a version of a paper, and none where there is no such version. Found by number; a step where
-    /// there is one.
+    /// Returns the content of a version of a paper, or `None` if there is no such version.
+    ///
+    /// # Cost
+    ///
+    /// Found by number; a step where there is one.
     pub(crate) fn content<L: Ledger>(
         &self,
         paper: PaperNo,
@@ -141,8 +164,11 @@ impl Uploads {
         Some(&version.content)
     }
 
-    /// The content of a paper's last version, and none where it has none. Found by number; a step where there is
-    /// one.
+    /// Returns the content of a paper's last version, or `None` if it has none.
+    ///
+    /// # Cost
+    ///
+    /// Found by number; a step where there is one.
     pub(crate) fn last_content<L: Ledger>(
         &self,
         paper: PaperNo,
@@ -159,8 +185,16 @@ impl Uploads {
 
 /// What is added.
 impl Uploads {
-    /// Takes the memory for one more upload to each of these papers, as often as it is there; an error only for
-    /// lack of memory, and the uploads are the same either way. Each paper is compared with those before it.
+    /// Takes the memory for one more upload to each of these papers, as often as it is there. The uploads don't
+    /// change.
+    ///
+    /// # Errors
+    ///
+    /// If memory runs out.
+    ///
+    /// # Cost
+    ///
+    /// Compares each paper with those before it.
     pub(crate) fn room(&mut self, papers: &[PaperNo]) -> Result<(), AllocError>
         ensures ok { OnOk result (HasRoom papers.now self.new.rooms) }
         ensures same { self.new.uploads ≡ self.old.uploads }
@@ -169,7 +203,11 @@ impl Uploads {
         self.uploads.room(papers)
     }
 
-    /// One more version of a paper, for which there is room; takes no memory, and moves no other.
+    /// Adds a version of a paper, for which there is room.
+    ///
+    /// # Cost
+    ///
+    /// Takes no memory, and moves no other.
     pub(crate) fn add(&mut self, paper: PaperNo, version: u64, content: Blob)
         requires room { 0 < slice_index self.old.rooms paper }
         requires next { version ≡ length (filed_of paper self.old.uploads) + 1 }

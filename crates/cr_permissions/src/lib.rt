@@ -1,8 +1,16 @@
-//! Who may do what and what comes of it, said a second time, and what follows from that for a conference's way.
+//! The permissions, stated a second time in a committee's words: a sentence for each command, query and bulk, and what
+//! follows for a conference's course.
 //!
-//! The definitions stand in this crate's specs: a sentence for each command, query and bulk in a committee's words, a
-//! bulk as its rows, a plan that is taken, the order of phases, and histories of older stores. The functions here do
-//! nothing: each has a law as its contract.
+//! # Proved
+//!
+//! - Which commands are accepted, which queries answered, and what an accepted command adds: `law_permissions`.
+//!   [CLAIMS.md](../../../docs/CLAIMS.md#permissions) has its clauses.
+//! - No conference gets stuck: `law_goes_on`.
+//! - Which phases are a phase or later, which may follow it, and its number in rows: `law_phases`.
+//! - A row for each pair of a plan is accepted: `law_plans_taken`.
+//! - A bulk on a legal history is its rows, one after another: `law_bulk`.
+//! - A legal history of an older version's kinds is legal without numbers, and of version 1 with every timestamp 0.
+//!   Its rows are then those of such a store, migrated: `law_migrated`.
 #![tactic(auto)]
 
 ghost use Rattle.cr_policy.specs.Added.{AddsAsSaid};
@@ -15,15 +23,17 @@ ghost use Rattle.cr_permissions.specs.MayBulk.{RowsAsSaid, BulksAsSaid};
 ghost use Rattle.cr_permissions.specs.MayDo.{PermissionsAsSaid};
 ghost use Rattle.cr_permissions.specs.MayRead.{ReadingAsSaid};
 
-/// Who may do what, and what comes of it, said a second time and in a committee's words: a sentence for each command,
-/// each query and each bulk, over the facts of a history. On every legal history, whoever calls, when, and by whatever
-/// number: a command is accepted, and a query answered, exactly where its sentence holds; and a bulk exactly where its
-/// caller is a chair, the committee works, and she may do what each row asks for when its turn comes, of which none is
-/// a conflict of her own. An accepted command adds the entries that its line says, by its maker, at its moment and by
-/// its number, all but the last with the mark that another follows, and is answered what its line says. Each of the
-/// eight actions of a row asks for the command that its line says. No list of checks is read there, nor what these
-/// lists read of phases, roles and accepted papers; which of the rules is told, where a sentence doesn't hold, is left
-/// open.
+/// A command is accepted, and a query answered, if and only if its sentence holds (`commands`, `reading`). The
+/// sentences are over facts of a history, in a committee's words. A bulk is accepted if and only if its caller is a
+/// chair, the committee works, and the caller may do what each row asks for when its turn comes; no row is a conflict
+/// of their own (`bulks`). An accepted command adds the entries that its line says, by its actor, at its timestamp and
+/// by its number, all but the last with the mark that another follows, and is answered what its line says (`adds`).
+/// Each of the eight actions of a row asks for the command that its line says (`rows`).
+///
+/// The sentences read no list of checks, nor what these lists read of phases, roles and accepted papers. Which rule a
+/// refusal names is left open.
+///
+/// *Scope:* legal histories; every caller, timestamp and number.
 pub fn law_permissions()
     ensures commands { PermissionsAsSaid }
     ensures reading { ReadingAsSaid }
@@ -32,36 +42,40 @@ pub fn law_permissions()
     ensures rows { RowsAsSaid }
 {}
 
-/// A bulk is its rows one after another, on a legal history. Where it is accepted, each row tells a command; given
-/// singly, one after another, without a number, these are all accepted, and what they add is what the bulk adds, but
-/// for the marks that another entry follows and for its number. Where it is refused for a row, the commands of those
-/// before it are accepted singly, and behind them that row breaks the rule that is told.
+/// A bulk is its rows, one after another. If it is accepted, each row tells a command; given singly, one after
+/// another, without a number, all are accepted, and add what the bulk adds, except the marks that another entry
+/// follows, and its number. If it is refused for a row, the commands of those before it are accepted singly, and after
+/// them that row breaks the rule that is named.
+///
+/// *Scope:* legal histories.
 pub fn law_bulk()
     ensures { BulkIsItsRows }
 {}
 
-/// A plan is taken: on a legal history the rows of the plan that a chair is told, given as a bulk of hers with nothing
-/// between, are accepted, at whatever moment, with a number or without.
+/// The rows of the plan that a chair is told, given as a bulk of theirs with nothing between, are accepted.
+///
+/// *Scope:* legal histories; any timestamp, with a number or without.
 pub fn law_plans_taken()
     ensures { PlansTaken }
 {}
 
-/// No conference gets stuck: in each legal history in which anybody has registered, somebody who has is a chair; and
-/// before the close there is a next phase, and each chair's request for it is accepted.
+/// No conference gets stuck: once a user has registered, some registered user is a chair. Before the close there is a
+/// next phase, and each chair's request for it is accepted.
+///
+/// *Scope:* legal histories.
 pub fn law_goes_on()
     ensures { GoesOn }
 {}
 
-/// The order of phases, of all pairs: which phases are one phase or later, and which may follow it. The response stands
-/// between the reviewing and the discussion, and may be left out; its number in rows comes behind all others.
+/// The order of phases, for all pairs: which phases are one phase or later, and which may follow it. The response is
+/// between the reviewing and the discussion, and may be left out; its number in rows comes after all others.
 pub fn law_phases()
     ensures { PhasesInOrder }
 {}
 
-/// A store that kept no moments of requests, or no numbers of commands, is migrated to one that does: a legal history
-/// of the kinds that it has is legal as well where no command had a number and, of the first version, each request
-/// came at the first moment of all, and its rows are those of the history so changed. So what such a store has is
-/// opened as it was.
+/// A store without timestamps, or without command numbers, is migrated to one with them. A legal history of its kinds
+/// is legal without command numbers and, for the first version, with every request at timestamp 0. Its rows are those
+/// of the history so changed, so such a store opens unchanged.
 pub fn law_migrated()
     ensures { Migrates }
 {}

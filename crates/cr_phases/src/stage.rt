@@ -14,10 +14,12 @@ use cr_base::{
 use std::marker::Model;
 use std::sync::ledger::Ledger;
 
-/// The phase and the mode of the conference, the deadlines of its phases, and whether the response was opened. Of fixed
-/// size: no call takes memory, and none fails for want of it.
+/// The phase and the mode of the conference, the deadlines of its phases, and whether the response was opened. Of
+/// fixed size: no call takes memory, and none fails for lack of it.
 ///
-/// Contracts see all four.
+/// # Model
+///
+/// All four.
 #[derive(Drop)]
 pub struct Stage {
     phase: Kept<Phase>,
@@ -39,7 +41,11 @@ impl Model for Stage {
     } };
 }
 
-/// `NotChair` where the caller is no chair.
+/// Checks whether the caller is a chair.
+///
+/// # Errors
+///
+/// `NotChair` if not.
 fn chairs_only(by: &Standing) -> Result<(), Rule>
     ensures { result ≡ judged (not (is_chair by.now.role) breaks Rule.NotChair ∷ []) tt }
 {
@@ -50,7 +56,8 @@ fn chairs_only(by: &Standing) -> Result<(), Rule>
 }
 
 impl Stage {
-    /// The stage of the empty history: setup, the mode is blind, no phase has a deadline, and no response was opened.
+    /// Returns the stage of the empty history: setup, the mode is blind, no phase has a deadline, and no response was
+    /// opened.
     pub fn new() -> Stage
         ensures { result ≡ first_stage }
     {
@@ -62,7 +69,11 @@ impl Stage {
         }
     }
 
-    /// The phase. One step.
+    /// Returns the phase.
+    ///
+    /// # Cost
+    ///
+    /// One step.
     pub fn phase<L: Ledger>(&self, steps: &mut Steps<L>) -> Phase
         ensures value { result ≡ self.now.phase }
         ensures steps { Takes 1 steps.old steps.new }
@@ -70,7 +81,11 @@ impl Stage {
         *self.phase.get(steps)
     }
 
-    /// The mode. One step.
+    /// Returns the mode.
+    ///
+    /// # Cost
+    ///
+    /// One step.
     pub fn mode<L: Ledger>(&self, steps: &mut Steps<L>) -> Mode
         ensures value { result ≡ self.now.mode }
         ensures steps { Takes 1 steps.old steps.new }
@@ -78,22 +93,22 @@ impl Stage {
         *self.mode.get(steps)
     }
 
-    /// The deadline of a phase, and none where it has none: none was set, or it was taken away.
+    /// Returns the deadline of a phase, or `None` if it has none: none was set, or it was taken away.
     pub fn deadline(&self, phase: Phase) -> Option<Deadline>
         ensures { result ≡ deadline_in self.now.deadlines phase }
     {
         self.deadlines.get(&mut Steps::uncounted()).of(phase)
     }
 
-    /// Whether the response was opened: a conference may have skipped it.
+    /// Returns whether the response was opened: a conference may have skipped it.
     pub fn had_response(&self) -> bool
         ensures { result ≡ self.now.had_response }
     {
         *self.had_response.get(&mut Steps::uncounted())
     }
 
-    /// Whether it is too late, at that moment, for what the phase opens: the phase that the conference is in has a
-    /// deadline, and the moment is later. At the very second of the deadline it isn't.
+    /// Returns whether it is too late, at that moment, for what the phase opens: the phase that the conference is in
+    /// has a deadline, and the moment is later. At the very second of the deadline it isn't.
     pub fn is_late(&self, at: Moment) -> bool
         ensures { result ≡ is_late_in self.now at }
     {
@@ -103,9 +118,12 @@ impl Stage {
         }
     }
 
-    /// Whether the caller may set this phase, or the first broken rule: `NotChair` where she is no chair, else
-    /// `WrongPhase` where the phase may not follow the one that the conference is in: from the reviewing both the
-    /// response and the discussion may. `by` is her standing, where no paper is named.
+    /// Checks whether the caller may set this phase. `by` is the caller's standing, where no paper is named.
+    ///
+    /// # Errors
+    ///
+    /// The first broken rule: `NotChair` if the caller is no chair, else `WrongPhase` if the phase may not follow the
+    /// one that the conference is in: from the reviewing both the response and the discussion may.
     pub fn judge_phase(&self, by: &Standing, to: Phase) -> Result<(), Rule>
         ensures { result ≡ judged (phase_checks by.now self.now.phase to) tt }
     {
@@ -116,9 +134,12 @@ impl Stage {
         Ok(())
     }
 
-    /// Whether the caller may set a mode, or the first broken rule: `NotChair` where she is no chair,
-    /// else `WrongPhase` where the conference has left setup. `by` is her standing, where no paper is
-    /// named.
+    /// Checks whether the caller may set a mode. `by` is the caller's standing, where no paper is named.
+    ///
+    /// # Errors
+    ///
+    /// The first broken rule: `NotChair` if the caller is no chair, else `WrongPhase` if the conference has left
+    /// setup.
     pub fn judge_mode(&self, by: &Standing) -> Result<(), Rule>
         ensures { result ≡ judged (mode_checks by.now self.now.phase) tt }
     {
@@ -129,8 +150,12 @@ impl Stage {
         Ok(())
     }
 
-    /// Whether the caller may set a deadline of this phase, or clear it, or the first broken rule: `NotChair` where
-    /// she is no chair, else `WrongPhase` where the phase is over. `by` is her standing, where no paper is named.
+    /// Checks whether the caller may set a deadline of this phase, or clear it. `by` is the caller's standing, where
+    /// no paper is named.
+    ///
+    /// # Errors
+    ///
+    /// The first broken rule: `NotChair` if the caller is no chair, else `WrongPhase` if the phase is over.
     pub fn judge_deadline(&self, by: &Standing, phase: Phase) -> Result<(), Rule>
         ensures { result ≡ judged (deadline_checks by.now self.now.phase phase) tt }
     {
@@ -141,7 +166,7 @@ impl Stage {
         Ok(())
     }
 
-    /// One more entry. Needs no room, and any entry fits.
+    /// Applies one more entry. Needs no room, and any entry fits.
     pub fn apply(&mut self, stamped: &Stamped)
         ensures { self.new ≡ stage_after self.old stamped.now.entry }
     {
@@ -153,7 +178,7 @@ impl Stage {
         }
     }
 
-    /// Another phase; where it is the response, that was opened.
+    /// Sets the phase; the response is opened with its phase.
     fn set_phase(&mut self, phase: Phase)
         ensures { self.new ≡ record self.old {
           phase = phase;
@@ -166,7 +191,7 @@ impl Stage {
         }
     }
 
-    /// Another deadline of this phase, or none any more.
+    /// Sets the deadline of this phase, or clears it.
     fn set_deadline(&mut self, phase: Phase, until: Option<Deadline>)
         ensures { self.new ≡ record self.old { deadlines = with_deadline phase until self.old.deadlines } }
     {

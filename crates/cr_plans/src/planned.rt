@@ -21,7 +21,11 @@ fn push_paper(papers: &mut Vec<PaperNo>, planned: bool, paper: PaperNo) -> Resul
     Ok(())
 }
 
-/// The papers, by number. One pass over all, of each what `is_planned` of `Live` costs.
+/// Returns the papers, by number.
+///
+/// # Cost
+///
+/// One pass over all, of each what `is_planned` of `Live` costs.
 pub(crate) fn papers(
     alloc: Global,
     live: &Live,
@@ -49,7 +53,7 @@ fn push_member(members: &mut Vec<AccountLine>, line: &AccountLine) -> Result<(),
     Ok(())
 }
 
-/// The members, chairs among them, by user number. Takes memory for all accounts besides.
+/// Returns the members, chairs among them, by user number. Takes memory for all accounts besides.
 pub(crate) fn members(
     alloc: Global,
     live: &Live,
@@ -69,7 +73,7 @@ pub(crate) fn members(
     Ok(members)
 }
 
-/// A bid as a weight.
+/// Returns a bid as a weight.
 fn weight(bid: Bid) -> i32
     ensures value { result ≡ weight_of bid }
     ensures low { negsuc 19 ≤ℤ result }
@@ -78,7 +82,7 @@ fn weight(bid: Bid) -> i32
     bid.raised() as i32 - 20
 }
 
-/// Adds the pair of the paper and the member at these places, if she may be assigned to it.
+/// Adds the pair of the paper and the member at these places, if the caller may be assigned to it.
 fn push_pair(
     pairs: &mut Vec<Pair>,
     live: &Live,
@@ -123,8 +127,8 @@ fn push_pairs(
     Ok(())
 }
 
-/// All pairs, by paper, then member: each of the places of its paper and its member, and her bid. For each paper and
-/// each member what `is_free_for` of `Live` costs, and one look-up more where she is.
+/// Returns all pairs, by paper, then member: each of the places of its paper and its member, and their bid. For each
+/// paper and each member what `is_free_for` of `Live` costs, and one look-up more where the caller is.
 pub(crate) fn pairs(
     alloc: Global,
     live: &Live,

@@ -8,15 +8,15 @@ use cr_base::{PerPaper, PlanLoad, Reply, Rule, UserNo};
 use cr_view::{AnswerError, Live};
 use std::alloc::Global;
 
-/// What a caller is answered to her query of a plan: so many more members for each paper, at most so many papers for a
-/// member. The papers are those that she is in no conflict with, that aren't withdrawn and have labels left for so
-/// many; the members are all, chairs among them; a member is given no paper that she is in conflict with or reviews.
-/// Of all such plans the one whose bids have the greatest sum, and of these the first, by paper, then user number, is
-/// told as the rows of a bulk.
+/// Returns what a caller is answered to their query of a plan: so many more members for each paper, at most so many
+/// papers for a member. The papers are those that the caller is in no conflict with, that aren't withdrawn and have
+/// labels left for so many; the members are all, chairs among them; a member is given no paper that the caller is in
+/// conflict with or reviews. Of all such plans the one whose bids have the greatest sum, and of these the first, by
+/// paper, then user number, is told as the rows of a bulk.
 ///
-/// `NotChair`; `WrongPhase` but from the bidding to the discussion; `PlanTooLarge` where there are more than 512 places
-/// or papers times members passes 4,096: these come whatever memory there is. `NoPlan` where there is no plan, which
-/// takes memory to find. An error for lack of memory only where it may come, or no rule is broken.
+/// `NotChair`; `WrongPhase` except from the bidding to the discussion; `PlanTooLarge` where there are more than 512
+/// places or papers times members passes 4,096: these come whatever memory there is. `NoPlan` where there is no plan,
+/// which takes memory to find. An error for lack of memory only where it may come, or no rule is broken.
 ///
 /// A walk over all papers and one over the accounts, twice; for each of the papers and members `is_free_for` of `Live`
 /// and a look-up; and what `first_best` of `cr_match` takes (docs/PERFORMANCE.md).

@@ -11,7 +11,7 @@ use cr_match::{Problem, Solved, first_best};
 use cr_view::Live;
 use std::alloc::{AllocError, Global};
 
-/// A number as a problem has it.
+/// Returns a number as a problem has it.
 fn narrow(number: u64) -> u32
     requires { number ≤ 9999 }
     ensures { result ≡ number }
@@ -19,7 +19,11 @@ fn narrow(number: u64) -> u32
     number as u32
 }
 
-/// The problem of these papers and members; an error only for lack of memory.
+/// Returns the problem of these papers and members.
+///
+/// # Errors
+///
+/// If memory runs out.
 fn problem(
     alloc: Global,
     live: &Live,
@@ -51,8 +55,11 @@ fn problem(
     }
 }
 
-/// The text of the best plan of these papers and members, and none where there is no plan; an error only for lack of
-/// memory.
+/// Returns the text of the best plan of these papers and members, or `None` if there is no plan.
+///
+/// # Errors
+///
+/// If memory runs out.
 fn solved(
     alloc: Global,
     live: &Live,
@@ -77,7 +84,11 @@ fn solved(
     }
 }
 
-/// The text of the best plan, and none where there is no plan; an error only for lack of memory.
+/// Returns the text of the best plan, or `None` if there is no plan.
+///
+/// # Errors
+///
+/// If memory runs out.
 pub(crate) fn best(
     alloc: Global,
     live: &Live,

@@ -10,7 +10,11 @@ use cr_base::{AccountLine, Blob, PaperNo};
 use cr_match::Pair;
 use std::alloc::{AllocError, Global};
 
-/// Appends the row of a pair of places; an error only for lack of memory.
+/// Appends the row of a pair of places.
+///
+/// # Errors
+///
+/// If memory runs out.
 fn append_pair(
     into: &mut Vec<u8>,
     papers: &[PaperNo],
@@ -26,7 +30,11 @@ fn append_pair(
     append_row(into, paper.number(), member.name.as_slice())
 }
 
-/// The header, and the row of each pair of places over these papers and members; an error only for lack of memory.
+/// Returns the header, and the row of each pair of places over these papers and members.
+///
+/// # Errors
+///
+/// If memory runs out.
 pub(crate) fn text(
     alloc: Global,
     papers: &[PaperNo],

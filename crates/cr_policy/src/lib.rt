@@ -1,10 +1,28 @@
-//! Which parts of the history a user sees, and the laws of what follows from them.
+//! Which parts of the history a user sees, and what follows: the visibility policy, the view that it selects,
+//! judgement and answer by a view, and legal histories.
 //!
-//! The definitions stand in this crate's specs: the trigger table, the view that it selects, the
-//! facts of a view, judgement and answer by a view alone, and legal histories. What legal histories
-//! keep stands in `cr_history`; laws that nothing which runs stands on, in `cr_bounds`,
-//! `cr_conference`, `cr_permissions` and `cr_told`. The functions here do nothing: each has a law as
-//! its contract.
+//! Theorems that the program doesn't rest on are in cr_bounds, cr_conference, cr_permissions, cr_told, cr_undeduced
+//! and cr_laws.
+//!
+//! # Proved
+//!
+//! - A view tells its user's phase, mode, role and relations to any paper, and what is public. It does for every
+//!   history, and for an unauthenticated caller: `law_standing` (`standing`, `public`).
+//! - The tables judge every command and bulk, and answer every query, as the view does: `law_view_suffices`. Each row
+//!   of a bulk is judged on the view followed by what the rows before it add. Scope: legal histories; registered
+//!   users, and unauthenticated callers if no authentication is required.
+//! - Every legal history keeps the invariants that its comment lists: `law_legal` (`invariants`).
+//! - A view of a legal history shows a digest only to its user: `law_legal` (`own_digests`).
+//! - What was accepted under a user's number can be read off their view: request digest, receipt, how many entries. In
+//!   a legal history these are one command's: `law_retries` (`kept`, `once`).
+//! - An author's view of a legal history tells which users the paper's authors declared in conflict: `law_declared`.
+//! - Histories that [differ unseen](../../../docs/CLAIMS.md#what-may-differ-without-being-seen), also by when, and by
+//!   which numbers, others made their entries: `law_hidden_payload` (`stamps`), `law_removed`.
+//! - Four small histories are legal, one of which goes on with a bulk: `law_witness`.
+//!
+//! # Not claimed
+//!
+//! - That the visibility policy is the right one. [Wrong ones](../../../checks/planted/README.md) were tried.
 #![tactic(auto)]
 
 ghost use Rattle.std.specs.Prelude.{ℕ, Option};
@@ -14,59 +32,69 @@ ghost use Rattle.cr_policy.specs.Laws.{KeptFromView, NumbersOnce, StandingFromVi
 ghost use Rattle.cr_policy.specs.Laws.{ViewSuffices, DeclaredFromView, LegalKeeps, DigestsAreOwn};
 ghost use Rattle.cr_policy.specs.WitnessLaws.{TwoRegistrations, DigestsHidden, OneSubmission, OneConflict, OneBulk};
 
-/// How a user stands can be read off what she sees: phase, mode, role and her ties to any paper, of
-/// every history and for every user, nobody among them. An author sees all authors of her paper, and
-/// whoever is none is told so by what she sees; each entry on a conflict of hers is shown her, and each by
-/// which she is assigned or unassigned, invited or no longer, so she is told whether she is in conflict, whether
-/// she reviews, and whether she is an external. What is public can be read off any view, the deadlines, whether the
-/// response was opened, the accounts, their names and roles, the papers, and which of them are accepted; and so can how
-/// many of the papers are the reader's own, how many bytes she has uploaded, and how many comments she has written.
+/// A view tells its user's phase, mode, role and relations to any paper. An author sees all authors of the paper, and
+/// another user sees by the view that they are none. Each entry on a conflict of theirs is shown to them, and each by
+/// which they are assigned, unassigned, invited or no longer. So the view tells whether they are in conflict, review,
+/// or are an external.
+///
+/// What is public can be read off any view: the deadlines, whether the response was opened, the accounts with their
+/// names and roles, the papers, and which of them are accepted. So can how many of the papers are the reader's own,
+/// how many bytes they have uploaded, and how many comments they have written.
+///
+/// *Scope:* every history, legal or not; every user and an unauthenticated caller.
 pub fn law_standing()
     ensures standing { StandingFromView }
     ensures public { (u : Option ℕ) (H : History) → PublicFactsFromView u H }
 {}
 
-/// What checks of role on the tables of a legal history give is what the caller's view alone gives: of every command
-/// and of every bulk its broken rule, with the number of a bulk's row that breaks one, or the entries that it adds and
-/// its receipt, of every query its answer, for every registered user, and for nobody where no login is wanted; and so
-/// is what a command or a bulk comes to that has a number, by these and by what the history keeps of it. A bulk's rows
-/// are judged one behind the other, each on the view with the entries of those before it, which are the caller's own.
-/// The accepted papers, a paper's page, content, reviews, comments and response are among the answers: what
-/// the caller's standing lets her have, its texts, its authors, its versions, whether it is withdrawn, who is declared
-/// in conflict with it and whom its authors declared, her own bid, label and forms, all bids, who reviews it and has
-/// written of it, the forms that are hers to read, the comments with their writers or labels, the response and the
-/// tags that are for her, is in her view, and no more is needed.
+/// Checks on the tables of a legal history give what the caller's view gives. Of every command and bulk: its broken
+/// rule, with the number of a bulk's row that breaks one, or the entries that it adds and its receipt. Of every query:
+/// its answer. Of a command or bulk with a number: what it comes to, by these and by what the history keeps of the
+/// number. A bulk's rows are judged one after the other, each on the view with the entries of those before it, which
+/// are the caller's own.
+///
+/// *Scope:* legal histories; every registered user, and an unauthenticated caller where no authentication is required.
 pub fn law_view_suffices()
     ensures { ViewSuffices }
 {}
 
-/// Whom a paper's authors declared in conflict with it can be read off the view of any of them, on a
-/// legal history: though a view doesn't say who made an entry that isn't the reader's own, of the
-/// entries that she is shown those are an author's that are her own, that name another than her, or
-/// that stand before the bidding.
+/// The view of any of a paper's authors tells which users its authors declared in conflict with it. A view doesn't
+/// name the actor of an entry that isn't the reader's own. But of the entries that it shows, an author's are those of
+/// their own, those that name another user, and those from before the bidding.
+///
+/// *Scope:* legal histories.
 pub fn law_declared()
     ensures { DeclaredFromView }
 {}
 
-/// What every legal history keeps. Each entry is within its bounds, so that its row spells it; each fits the tables
-/// of what stands before it; each is in order there: who registers makes the entry herself and every other maker has
-/// registered before, users and papers are numbered as they come, names are new, phases go on by one, or past the
-/// response, and what is set, submitted, named or declared is so in its phase, by whom may. No command's entries are
-/// cut off, nor a bulk's, and all of them are of one maker, one moment and one number; and authors declare conflicts
-/// before the bidding. A history is legal that commands and bulks lead to. So a digest is its user's alone: no view
-/// shows it to anybody else.
+/// What every legal history keeps (`invariants`); a history is legal if commands and bulks lead to it.
+///
+/// - Each entry is within its bounds, so that its row spells it, and fits the tables of what precedes it.
+/// - A registration's actor is the new user; every other actor has registered before.
+/// - Users, papers, versions and labels are numbered as they come, with at most 26 labels a paper; names are new.
+/// - Phases follow each other, and the response may be left out. Appointing raises a role; dismissing ends a member's,
+///   never the only chair's.
+/// - Each entry is made in its phase by a user who may, except the first chair. Authors declare conflicts before the
+///   bidding. Only members and externals of a paper are in declared conflict with it or assigned; no member is
+///   invited.
+/// - No command's or bulk's entries are cut off. All of them have one actor, one timestamp and one number.
+///
+/// So a view shows a digest only to its user (`own_digests`).
 pub fn law_legal()
     ensures invariants { LegalKeeps }
     ensures own_digests { DigestsAreOwn }
 {}
 
-/// There are legal histories: two registrations, of which nobody sees a digest, and the first user
-/// no other than her own. One that goes on with a submission: before the bidding a chair sees of it
-/// the paper's number alone, not who made it, title or abstract; its author sees all of it. And one
-/// that goes on from there to the bidding, in the anonymous mode: the member whom the author declared in
-/// conflict sees no abstract, and the other member sees it but not who wrote it. From there the chair goes on with a
-/// bulk, which assigns that member, takes him off, assigns him anew under another label and tags the paper; a bulk
-/// that assigns him twice is refused for the second of these rows.
+/// There are legal histories.
+///
+/// - `legal`, `hidden`: two registrations. An unauthenticated caller sees no digest, and the first user only their
+///   own.
+/// - `submitted`: it goes on with a submission. Before the bidding a chair sees only the paper's number, and its
+///   author all of it.
+/// - `conflict`: it goes on from there to the bidding, in the anonymous mode. The member that the author declared in
+///   conflict sees no abstract; the other sees it, and not its authors.
+/// - `bulk`: from there the chair goes on with a bulk, which assigns that member, unassigns him, assigns him anew
+///   under another label, and tags the paper. A bulk that assigns him twice is refused for the second of these rows.
 pub fn law_witness()
     ensures legal { TwoRegistrations }
     ensures hidden { DigestsHidden }
@@ -75,29 +103,31 @@ pub fn law_witness()
     ensures bulk { OneBulk }
 {}
 
-/// Two histories that differ in nothing that a user is shown look the same to her; and so they do to an
-/// unauthenticated caller, of what she isn't shown. Their entries are alike one by one: of the same kind and on the
-/// same paper, with the same label, version, number and tag. What differs is a part that the table doesn't show her,
-/// or who made an entry or is named by it, where she is neither. The same papers are accepted, and of each conflict
-/// with a paper of hers it is the same whether an author of that declared it. They need not be legal. The second
-/// clause says it of moments and of the numbers of commands: whenever others made their entries, and by whatever
-/// numbers, she sees the same.
+/// Two histories that differ in nothing that a user is shown look the same to that user. Their entries are alike one
+/// by one: of the same kind and on the same paper, with the same label, version, number and tag. What differs is a
+/// part that the policy doesn't show the user, or the entry's actor or the user named, if the reader is neither. The
+/// same papers are accepted; and of each conflict with a paper of the reader's own, an author of it declared it in
+/// both or in neither (`payload`). Others may have made their entries at any other times and by any other numbers
+/// (`stamps`).
+///
+/// *Scope:* any histories, legal or not; every user, and an unauthenticated caller.
 pub fn law_hidden_payload()
     ensures payload { HiddenPayload }
     ensures stamps { StampsUnseen }
 {}
 
-/// An entry that shows a user nothing can be taken out of a history, where the same papers stay accepted: she sees the
-/// same without it, and so does an unauthenticated caller of one that shows her nothing. Another entry may take its
-/// place, as the last of a paper's texts, say, or the first form under a label; it is shown no more there than the one
-/// that was taken out, so nothing more.
+/// A user sees the same with and without an entry that shows them nothing, if the same papers stay accepted. Another
+/// entry may take its place, as the last of a paper's texts, say, or the first form under a label; it is shown no more
+/// there than the one that was taken out.
+///
+/// *Scope:* any histories; every user, and an unauthenticated caller.
 pub fn law_removed()
     ensures { Removal }
 {}
 
-/// What a user had accepted under the numbers of her commands can be read off what she sees, whatever the history: the
-/// mark of the request, what it is answered, and how many entries it added. On a legal history each of her numbers is
-/// that of one command's entries, which stand one behind another.
+/// A view tells what its user had accepted under the numbers of their commands: the request's digest, its receipt, and
+/// how many entries it added (`kept`). On a legal history each number is that of one command's entries, which follow
+/// one another (`once`).
 pub fn law_retries()
     ensures kept { KeptFromView }
     ensures once { NumbersOnce }

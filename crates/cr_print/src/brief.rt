@@ -26,8 +26,8 @@ fn put_content(into: &mut Vec<u8>, content: &[u8], is_head: bool)
     }
 }
 
-/// Puts the head before a brief content that stands at the end, from `start` on. A head tells its
-/// content's length, so the content is written first, and moved behind it. It can't fail.
+/// Puts the head before a brief content that is at the end, from `start` on. A head tells its content's length, so the
+/// content is written first, and moved after it. It can't fail.
 pub(crate) fn print_brief(into: &mut Vec<u8>, start: usize, head: AnswerHead, sending: Sending)
     requires begins { start ≤ vec_len into.old }
     requires brief { vec_len into.old ≤ start + 288 }

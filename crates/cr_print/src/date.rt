@@ -12,7 +12,9 @@ pub(crate) const DATE_TEXT: usize = 29;
 /// A moment with its text as an IMF-fixdate (RFC 9110, section 5.6.7), like `Sun, 06 Nov 1994 08:49:37 GMT`, so that
 /// answers within one second have it written once.
 ///
-/// Contracts see the moment.
+/// # Model
+///
+/// The moment.
 #[derive(Clone, Copy)]
 pub struct Date {
     at: Moment,
@@ -33,7 +35,7 @@ impl Model for Date {
 }
 
 impl Date {
-    /// The date of a moment, whose text is written now.
+    /// Returns the date of a moment, whose text is written now.
     pub fn of(at: Moment) -> Date
         ensures { result ≡ at }
     {
@@ -44,7 +46,7 @@ impl Date {
         }
     }
 
-    /// The date of a moment: this one where it is of the same second, and else a new one, whose text is written now.
+    /// Returns the date of a moment: this one if it is of that second, otherwise a new one, whose text is written now.
     pub fn renewed(self, at: Moment) -> Date
         ensures { result ≡ at }
     {
@@ -54,7 +56,7 @@ impl Date {
         Date::of(at)
     }
 
-    /// Its text, 29 bytes.
+    /// Returns its text, 29 bytes.
     pub(crate) fn as_bytes(&self) -> &[u8]
         ensures value { result.now ≡ date_text self.now }
         ensures whole { length result.now ≡ 29 }

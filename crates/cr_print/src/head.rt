@@ -55,7 +55,7 @@ pub(crate) enum MediaType {
 }
 
 impl MediaType {
-    /// Its name, at most 25 bytes.
+    /// Returns its name, at most 25 bytes.
     #[tactic(auto, unfolding(crate::specs::Head::media_type_name))]
     fn name(self) -> &'static str
         ensures value { result.now ≡ media_type_name self }
@@ -69,7 +69,7 @@ impl MediaType {
     }
 }
 
-/// The field that only some answers have, right behind the date.
+/// The field that only some answers have, right after the date.
 #[derive(Clone, Copy, PartialEq, Eq)]
 pub(crate) enum Extra {
     /// None.
@@ -91,7 +91,7 @@ pub(crate) struct AnswerHead {
     pub extra: Extra,
 }
 
-/// The head of an answer whose content is JSON.
+/// Returns the head of an answer whose content is JSON.
 pub(crate) fn json(status: Status, extra: Extra) -> AnswerHead
     ensures { result ≡ json_head status extra }
 {

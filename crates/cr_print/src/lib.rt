@@ -1,11 +1,19 @@
-//! The bytes of every answer.
+//! The bytes of every answer, appended to a buffer whole or not at all.
 //!
-//! An answer is appended to a buffer whole or not at all; of a paper's content and of a report the head
-//! alone is, and the bytes are lent behind it. Refusals and receipts are written into room that was made
-//! before, so that writing them can't fail;
-//! `print_reply` makes its own room.
+//! # Proved
 //!
-//! Contents are JSON by the one writer of `cr_json`.
+//! - With 512 bytes of room, refusals and receipts can't fail, and are the defined bytes: `print_refusal`,
+//!   `print_receipt`.
+//! - A reply is printed whole or not at all: `print_reply` (`prints`). Of a content or a report the front is printed
+//!   and the rest lent; both together are the defined bytes: `block`.
+//! - Replies of bounded length, and those fronts, take no memory if that room is there: `print_reply` (`sure`).
+//! - The text for lack of memory takes none, and equals the refusal that closes: `no_memory_text`.
+//! - An answer's first field is the date of its timestamp, by `httpdate`; one that is kept has its timestamp's text:
+//!   `date_line`, `Date::of`, `renewed`. Four dates are written out: `law_dates_written_out`.
+//!
+//! # Tested
+//!
+//! - The answer for lack of memory: tests_of_books.
 #![tactic(auto)]
 
 mod brief;

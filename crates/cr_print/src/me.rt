@@ -6,7 +6,7 @@ use cr_base::Me;
 use cr_json::Object;
 use std::alloc::AllocError;
 
-/// Appends the content that tells a user of herself.
+/// Appends the content that tells a user of themselves.
 pub(crate) fn append_me(into: &mut Vec<u8>, me: &Me) -> Result<(), AllocError>
     ensures { Appends result into.old into.new (me_content me.now) }
 {

@@ -7,12 +7,14 @@ use crate::date::{DATE_TEXT, Date};
 use arrayvec::ArrayVec;
 use std::marker::Model;
 
-/// The bytes of the answer with its content: 41 ahead of the date, and 96 behind it.
+/// The bytes of the answer with its content: 41 ahead of the date, and 96 after it.
 const ROOM: usize = 41 + DATE_TEXT + 96;
 
 /// The bytes of the answer where memory ran out. They lie on the stack.
 ///
-/// Contracts see the bytes.
+/// # Model
+///
+/// The bytes.
 #[derive(Drop)]
 pub struct NoMemoryText {
     text: ArrayVec<u8, ROOM>,
@@ -27,7 +29,7 @@ impl Model for NoMemoryText {
 }
 
 impl NoMemoryText {
-    /// The bytes.
+    /// Returns the bytes.
     pub fn as_slice(&self) -> &[u8]
         ensures { result.now ≡ self.now }
     {
@@ -35,7 +37,7 @@ impl NoMemoryText {
     }
 }
 
-/// The answer with this date, and behind it what is given.
+/// Returns the answer with this date, and after it what is given.
 fn dated(date: Date, back: &[u8]) -> NoMemoryText
     requires { length back.now ≤ 96 }
     ensures { result ≡ codes "HTTP/1.1 507 Insufficient Storage\r\nDate: " ++ date_text date ++ back.now }
@@ -48,8 +50,11 @@ fn dated(date: Date, back: &[u8]) -> NoMemoryText
     NoMemoryText { text }
 }
 
-/// The answer where memory ran out, as `print_refusal` writes it with `closes`. It takes no memory and
-/// no room in any buffer.
+/// Returns the answer where memory ran out, as `print_refusal` writes it with `closes`.
+///
+/// # Cost
+///
+/// It takes no memory and no room in any buffer.
 pub fn no_memory_text(is_head: bool, date: Date) -> NoMemoryText
     ensures { result ≡ no_memory_text is_head date }
 {

@@ -9,7 +9,7 @@ use std::alloc::AllocError;
 /// Bytes that suffice for a page beside its texts, mostly.
 const PAGE_ROOM: usize = 1_024;
 
-/// The bytes that a page takes, mostly: more where its texts need many escapes, or its lists are long.
+/// Returns the bytes that a page takes, mostly: more where its texts need many escapes, or its lists are long.
 pub(crate) fn page_room(page: &Page) -> usize {
     let abstract_ = page
         .abstract_

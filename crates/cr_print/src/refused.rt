@@ -26,8 +26,8 @@ pub enum Refused {
     NoRoute,
     /// The path doesn't answer the method (405); the answer names the methods that it answers.
     WrongMethod(Resource),
-    /// The request names no user by her name and secret, and what it asks for wants one (401); the answer
-    /// has a challenge (RFC 9110, section 11.6.1), and is the same whatever was wrong.
+    /// The request has no user's name and secret, and what it asks for requires authentication (401); the answer has a
+    /// challenge (RFC 9110, section 11.6.1), and doesn't depend on what was wrong.
     Unauthorized,
     /// The field Command-Number tells no number, or is there more than once (400).
     BadNumber,

@@ -153,7 +153,7 @@ fn print_response(into: &mut Vec<u8>, text: &Text, sending: Sending) -> Result<(
     print_content(into, content.as_slice(), sending)
 }
 
-/// The head of an answer whose content is bytes as they are.
+/// Returns the head of an answer whose content is unchanged bytes.
 fn head_of_bytes() -> AnswerHead
     ensures { result ≡ bytes_head }
 {
@@ -164,7 +164,7 @@ fn head_of_bytes() -> AnswerHead
     }
 }
 
-/// Appends what stands in front of a content of so many bytes. It can't fail.
+/// Appends what is in front of a content of so many bytes. It can't fail.
 #[tactic(auto, unfolding(crate::specs::Answers::content_front))]
 fn print_front(into: &mut Vec<u8>, length: usize, sending: Sending)
     requires { HasRoom into.old 224 }
@@ -173,7 +173,7 @@ fn print_front(into: &mut Vec<u8>, length: usize, sending: Sending)
     print_head(into, head_of_bytes(), length, sending);
 }
 
-/// The head of an answer whose content is text.
+/// Returns the head of an answer whose content is text.
 fn head_of_text() -> AnswerHead
     ensures { result ≡ text_head }
 {
@@ -184,7 +184,7 @@ fn head_of_text() -> AnswerHead
     }
 }
 
-/// Appends what stands in front of a report of so many bytes. It can't fail.
+/// Appends what is in front of a report of so many bytes. It can't fail.
 #[tactic(auto, unfolding(crate::specs::Answers::report_front))]
 fn print_report_front(into: &mut Vec<u8>, length: usize, sending: Sending)
     requires { HasRoom into.old 224 }
@@ -193,13 +193,14 @@ fn print_report_front(into: &mut Vec<u8>, length: usize, sending: Sending)
     print_head(into, head_of_text(), length, sending);
 }
 
-/// Appends the answer of a reply, all but what `block` lends: so neither a paper's content nor a report is ever copied
-/// here, and its head alone is appended. Every other answer is appended whole.
+/// Appends the answer of a reply, except what `block` lends: of a paper's content and of a report only the head is
+/// appended. The content of a list, a page, a response, a search's result or the caller's own record is made in a
+/// vector of its own, to HEAD too, and copied once.
 ///
-/// An error comes only for lack of memory, and `into` then has the bytes that it had; its room may
-/// have grown. It never comes for a receipt, a refusal, the conference, a count, a content or a report where room for
-/// 512 bytes is there. The content of a list, a page, a response, what was found or what one is told of oneself is made
-/// in a vector of its own, to HEAD too, and copied once.
+/// # Errors
+///
+/// If memory runs out. `into` then has the bytes that it had; its room may have grown. With room for 512 bytes it
+/// never fails for a receipt, a refusal, the conference, a count, a content or a report.
 pub fn print_reply(into: &mut Vec<u8>, reply: &Reply, sending: Sending) -> Result<(), AllocError>
     ensures prints { Prints result into.old into.new (front_text sending reply.now) }
     ensures sure { OnErr result (IsBrief reply.now → HasRoom into.old 512 → ⊥) }
@@ -256,8 +257,9 @@ pub fn print_reply(into: &mut Vec<u8>, reply: &Reply, sending: Sending) -> Resul
     }
 }
 
-/// What is to be written behind what `print_reply` appended: a paper's content as it is kept, or the text of a report,
-/// unless the answer is to HEAD, and nothing of any other reply. It is lent, so this takes no memory and no time.
+/// Returns what is to be written after what `print_reply` appended: a paper's content unchanged, or the text of a
+/// report, unless the answer is to HEAD, and nothing of any other reply. It is lent, so this takes no memory and no
+/// time.
 pub fn block<'a>(reply: &'a Reply, sending: &Sending) -> &'a [u8]
     ensures { result.now ≡ block_text sending.now reply.now }
 {

@@ -9,7 +9,7 @@ pub struct Sending {
     /// The request is a HEAD: no content is sent, and `Content-Length` is the content's without it
     /// (RFC 9110, section 9.3.2).
     pub is_head: bool,
-    /// The connection ends behind the answer, which says so.
+    /// The connection ends after the answer, which says so.
     pub closes: bool,
     /// The date that it has: of the second in which its request was whole, or was refused.
     pub date: Date,

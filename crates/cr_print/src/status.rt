@@ -23,7 +23,7 @@ pub(crate) enum Status {
 }
 
 impl Status {
-    /// Its code.
+    /// Returns its code.
     #[tactic(auto, unfolding(crate::specs::Status::code_of))]
     pub(crate) fn code(self) -> StatusCode
         ensures { result ≡ code_of self }
@@ -45,7 +45,7 @@ impl Status {
         }
     }
 
-    /// Its phrase, at most 31 bytes. `http` has 413 by its older name, so the phrases stand here.
+    /// Returns its phrase, at most 31 bytes. `http` has an older name for 413, so the phrases are here.
     #[tactic(auto, unfolding(crate::specs::Status::phrase_of))]
     pub(crate) fn phrase(self) -> &'static str
         ensures value { result.now ≡ phrase_of self }

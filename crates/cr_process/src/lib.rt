@@ -1,8 +1,15 @@
-//! The process: the top call over the words of the command line, standard input and standard output, files as
-//! stores, sockets, and the system's clock.
+//! The process: `top` over the arguments, standard input and output, files as stores, sockets, and the system's clock.
+//! A program's `main` only hands its runtime to `run`.
 //!
-//! A program's `main` hands its runtime to `run`, once as what it is and once as what may wait and start
-//! threads, and has nothing else in it.
+//! # Proved
+//!
+//! - The status of the process is an exit's number: `run`, `status_of`.
+//!
+//! # Tested
+//!
+//! - The few lines that hand streams, arguments, shelf, gates and clock to `top`, write a line on standard error, and
+//!   end with that status. No clause says that the exit is the one that `top` gave: `checks/serve.py`,
+//!   `checks/store.py`, `checks/edge.py`.
 #![tactic(auto)]
 
 ghost use Rattle.std.specs.Prelude.{◌≡◌};

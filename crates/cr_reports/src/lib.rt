@@ -1,5 +1,13 @@
-//! The reports: what is told of all papers, or of one, as plain text. Each is written in one pass over what it lists,
-//! from the facts of a paper, read once, or from single fields of the tables; no page is made for a line.
+//! The committee's reports, and letters to authors, as plain text.
+//!
+//! # Proved
+//!
+//! - Unless memory runs out, a report is the defined text of what the tables have for the caller, or the first broken
+//!   rule: `answer`; `papers`, `scores`, `load`, `decisions`, `letter`. A refusal takes no memory.
+//!
+//! # Assumed
+//!
+//! - A report is one pass over what it lists.
 #![tactic(auto)]
 
 mod columns;

@@ -20,7 +20,7 @@ pub(crate) enum Written {
     Since(Phase),
 }
 
-/// Whether the form was written under the label, and then.
+/// Returns whether the form was written under the label, and then.
 fn is_written(form: &WrittenForm, ordinal: Ordinal, when: Written) -> bool
     ensures { result ≡ is_written ordinal when form.now }
 {
@@ -31,21 +31,33 @@ fn is_written(form: &WrittenForm, ordinal: Ordinal, when: Written) -> bool
     }
 }
 
-/// How many there are. A walk over all forms.
+/// Returns how many there are.
+///
+/// # Cost
+///
+/// A walk over all forms.
 pub(crate) fn count_under(forms: &[WrittenForm], ordinal: Ordinal) -> usize
     ensures { result ≡ count_by (is_under ordinal) forms.now }
 {
     forms.iter().filter(|form| form.is_under(ordinal)).count()
 }
 
-/// Whether there is one. A walk up to the first.
+/// Returns whether there is one.
+///
+/// # Cost
+///
+/// A walk up to the first.
 pub(crate) fn has_under(forms: &[WrittenForm], ordinal: Ordinal) -> bool
     ensures { result ≡ list_any (is_under ordinal) forms.now }
 {
     forms.iter().any(|form| form.is_under(ordinal))
 }
 
-/// The last of them that was written then. A walk back to it.
+/// Returns the last of them that was written then.
+///
+/// # Cost
+///
+/// A walk back to it.
 pub(crate) fn last_of(
     forms: &[WrittenForm],
     ordinal: Ordinal,
@@ -59,7 +71,7 @@ pub(crate) fn last_of(
         .find(|form| is_written(form, ordinal, when))
 }
 
-/// The label of the form is among them from now on, where it was written then.
+/// Adds the form's label, if it was written then.
 fn add_written(labels: &mut Labels, form: &WrittenForm, when: Written)
     ensures { (o : ℕ) → has_label labels.new o ≡ (is_written o when form.now || has_label labels.old o) }
 {
@@ -68,7 +80,11 @@ fn add_written(labels: &mut Labels, form: &WrittenForm, when: Written)
     }
 }
 
-/// The labels under which there is one that was written then. One walk.
+/// Returns the labels under which there is one that was written then.
+///
+/// # Cost
+///
+/// One walk.
 pub(crate) fn labels_of(forms: &[WrittenForm], when: Written) -> Labels
     ensures { (o : ℕ) → has_label result o ≡ list_any (is_written o when) forms.now }
 {

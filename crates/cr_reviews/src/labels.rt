@@ -8,7 +8,11 @@ use std::marker::Model;
 /// A flag for each ordinal, and one for 0, which no label has.
 const FLAGS: usize = MOST_LABELS as usize + 1;
 
-/// Some of the labels of a paper. Contracts see a flag for each ordinal.
+/// Some of the labels of a paper.
+///
+/// # Model
+///
+/// A flag for each ordinal.
 #[derive(Clone, Copy)]
 pub struct Labels {
     flags: [bool; FLAGS],
@@ -25,7 +29,7 @@ impl Model for Labels {
 }
 
 impl Labels {
-    /// None of them.
+    /// Returns no labels.
     pub(crate) fn none() -> Labels
         ensures { (o : ℕ) → has_label result o ≡ false }
     {
@@ -34,14 +38,18 @@ impl Labels {
         }
     }
 
-    /// Whether the label of this ordinal is among them. One read.
+    /// Returns whether the label of this ordinal is among them.
+    ///
+    /// # Cost
+    ///
+    /// One read.
     pub fn has(&self, ordinal: Ordinal) -> bool
         ensures { result ≡ has_label self.now ordinal }
     {
         self.flags[ordinal.number() as usize]
     }
 
-    /// The label of this ordinal is among them from now on.
+    /// Adds the label of this ordinal.
     pub(crate) fn add(&mut self, ordinal: Ordinal)
         ensures { (o : ℕ) → has_label self.new o ≡ (ordinal == o || has_label self.old o) }
     {

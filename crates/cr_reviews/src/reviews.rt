@@ -21,10 +21,12 @@ use std::alloc::{AllocError, Global};
 use std::marker::Model;
 use std::sync::ledger::Ledger;
 
-/// The forms of each paper in the order in which they were written, all of them; and the phase, which each
-/// form takes over when it is written.
+/// The forms of each paper in the order in which they were written, all of them; and the phase, which each form takes
+/// over when it is written.
 ///
-/// Contracts see the phase and the forms paper by paper, and for how many more forms of each paper there is room.
+/// # Model
+///
+/// The phase and the forms paper by paper, and for how many more forms of each paper there is room.
 #[derive(Drop)]
 pub struct Reviews {
     alloc: Global,
@@ -45,7 +47,11 @@ impl Model for Reviews {
 
 /// What is read.
 impl Reviews {
-    /// No forms, in the first phase; takes no memory.
+    /// Creates one without forms, in the first phase.
+    ///
+    /// # Cost
+    ///
+    /// Takes no memory.
     pub fn new(alloc: Global) -> Reviews
         ensures { result.reviews ≡ no_reviews }
     {
@@ -56,8 +62,12 @@ impl Reviews {
         }
     }
 
-    /// The forms of the paper, under all labels, in the order in which they were written; none where there
-    /// is no such paper. Found by number, to be read: a step for each. Takes no memory.
+    /// Returns the forms of the paper, under all labels, in the order in which they were written; none if there is no
+    /// such paper.
+    ///
+    /// # Cost
+    ///
+    /// Found by number, to be read: a step for each. Takes no memory.
     pub fn forms<L: Ledger>(&self, paper: PaperNo, steps: &mut Steps<L>) -> &[WrittenForm]
         ensures forms { result.now ≡ filed_of paper self.now.reviews.forms }
         ensures steps { Takes (length (filed_of paper self.now.reviews.forms)) steps.old steps.new }
@@ -65,8 +75,11 @@ impl Reviews {
         self.forms.of_paper(paper, steps)
     }
 
-    /// The last form under the paper's label of this ordinal, and none where there is none. Found by number, and a
-    /// walk over the paper's forms: a step for each of them.
+    /// Returns the last form under the paper's label of this ordinal, or `None` if there is none.
+    ///
+    /// # Cost
+    ///
+    /// Found by number, and a walk over the paper's forms: a step for each of them.
     pub fn last<L: Ledger>(
         &self,
         paper: PaperNo,
@@ -79,8 +92,11 @@ impl Reviews {
         last_of(self.forms(paper, steps), ordinal, Written::Ever)
     }
 
-    /// The last of them that was written before the phase began, and none where there is none. It costs the
-    /// same.
+    /// Returns the last of them that was written before the phase began, or `None` if there is none.
+    ///
+    /// # Cost
+    ///
+    /// That of `last`.
     pub fn last_before<L: Ledger>(
         &self,
         paper: PaperNo,
@@ -94,7 +110,11 @@ impl Reviews {
         last_of(self.forms(paper, steps), ordinal, Written::Before(phase))
     }
 
-    /// The last of them that was written in the phase or later, and none where there is none. It costs the same.
+    /// Returns the last of them that was written in the phase or later, or `None` if there is none.
+    ///
+    /// # Cost
+    ///
+    /// That of `last`.
     pub fn last_since<L: Ledger>(
         &self,
         paper: PaperNo,
@@ -108,8 +128,11 @@ impl Reviews {
         last_of(self.forms(paper, steps), ordinal, Written::Since(phase))
     }
 
-    /// Whether there is a form under the paper's label of this ordinal. Found by number, and a walk over the
-    /// paper's forms: a step for each of them.
+    /// Returns whether there is a form under the paper's label of this ordinal.
+    ///
+    /// # Cost
+    ///
+    /// Found by number, and a walk over the paper's forms: a step for each of them.
     pub fn has_form<L: Ledger>(
         &self,
         paper: PaperNo,
@@ -122,8 +145,11 @@ impl Reviews {
         has_under(self.forms(paper, steps), ordinal)
     }
 
-    /// The labels of the paper under which there is a form. Found by number, and one walk over the paper's forms:
-    /// a step for each of them.
+    /// Returns the labels of the paper under which there is a form.
+    ///
+    /// # Cost
+    ///
+    /// Found by number, and one walk over the paper's forms: a step for each of them.
     pub fn labels<L: Ledger>(&self, paper: PaperNo, steps: &mut Steps<L>) -> Labels
         ensures value { (o : ℕ) → has_label result o ≡ is_written_in self.now.reviews paper o }
         ensures steps { Takes (length (filed_of paper self.now.reviews.forms)) steps.old steps.new }
@@ -131,7 +157,11 @@ impl Reviews {
         labels_of(self.forms(paper, steps), Written::Ever)
     }
 
-    /// Those of them under which there is one that was written before the phase began. It costs the same.
+    /// Returns those of them under which there is one that was written before the phase began.
+    ///
+    /// # Cost
+    ///
+    /// That of `labels`.
     pub fn labels_before<L: Ledger>(
         &self,
         paper: PaperNo,
@@ -145,15 +175,20 @@ impl Reviews {
         labels_of(self.forms(paper, steps), Written::Before(phase))
     }
 
-    /// The version that a form under this label of this paper would be now, the count of forms under the
-    /// label plus 1, or the first broken rule. `by` is the caller's standing at the paper, `ordinal` that of
-    /// the label under which she reviews it, if she does; `paper` is none where there is no such paper.
-    /// Whether it is withdrawn stands in none of the forms. `late` is what `Stage::is_late` says at the request's
-    /// moment. One read by number, and a walk over the paper's forms; takes no memory.
+    /// Returns the version that a form under this label of this paper would be now, the count of forms under the label
+    /// plus 1. `by` is the caller's standing at the paper, `ordinal` that of the label under which the caller reviews
+    /// it, if the caller does; `paper` is none if there is no such paper. Whether it is withdrawn is in none of the
+    /// forms. `late` is what `Stage::is_late` says at the request's moment.
     ///
-    /// In this order: `NoPaper`, `NotMember` where she is no external of the paper either, `Conflict`, `NotReviewer`
-    /// where she doesn't review the paper, `WrongPhase` where it is neither the reviewing nor the discussion, `Late`
-    /// where it is too late, `Withdrawn`.
+    /// # Errors
+    ///
+    /// The first broken rule, in this order: `NoPaper`, `NotMember` if the caller is no external of the paper either,
+    /// `Conflict`, `NotReviewer` if the caller doesn't review the paper, `WrongPhase` if it is neither the reviewing
+    /// nor the discussion, `Late` if it is too late, `Withdrawn`.
+    ///
+    /// # Cost
+    ///
+    /// One read by number, and a walk over the paper's forms; takes no memory.
     pub fn judge_review(
         &self,
         by: &Standing,
@@ -190,7 +225,7 @@ impl Reviews {
         Ok(self.count_by(*paper, ordinal) + 1)
     }
 
-    /// How many forms there are under the paper's label of this ordinal, and 0 where none is told.
+    /// Returns how many forms there are under the paper's label of this ordinal, and 0 where none is told.
     fn count_by(&self, paper: PaperNo, ordinal: &Option<Ordinal>) -> u64
         ensures value { result ≡ length (forms_by self.now.reviews paper ordinal.now) }
         ensures few { result < 2 ^ 63 }
@@ -206,8 +241,15 @@ impl Reviews {
 
 /// What entries make of it.
 impl Reviews {
-    /// Takes the memory that the entries of one command need; an error only for lack of memory, and the
-    /// forms are the same either way. Each paper of which they are reviews is compared with those before it.
+    /// Takes the memory that the entries of one command need. The forms don't change.
+    ///
+    /// # Errors
+    ///
+    /// If memory runs out.
+    ///
+    /// # Cost
+    ///
+    /// Each paper of which they are reviews is compared with those before it.
     pub fn room(&mut self, group: &[Stamped]) -> Result<(), AllocError>
         ensures ok { OnOk result (ReviewsHaveRoom group.now self.new.rooms) }
         ensures same { self.new.reviews ≡ self.old.reviews }
@@ -217,8 +259,11 @@ impl Reviews {
         self.forms.room(&papers)
     }
 
-    /// One more entry, for which there is room. It is taken whole, since a form's texts are kept; takes no
-    /// memory. A form costs one read by number, and moves none of the others.
+    /// Applies one more entry, for which there is room. It is taken whole, since a form's texts are kept.
+    ///
+    /// # Cost
+    ///
+    /// A form costs one read by number, and moves none of the others. Takes no memory.
     pub fn apply(&mut self, stamped: Stamped)
         requires { ReviewsHaveRoom (stamped ∷ []) self.old.rooms }
         ensures after { self.new.reviews ≡ reviews_after self.old.reviews stamped.entry }
@@ -250,7 +295,7 @@ impl Reviews {
     }
 }
 
-/// The paper of which the entry is a review, if it is one.
+/// Returns the paper of which the entry is a review, if it is one.
 fn paper_reviewed(stamped: &Stamped) -> Option<PaperNo>
     ensures { result ≡ paper_reviewed stamped.now }
 {
@@ -260,7 +305,7 @@ fn paper_reviewed(stamped: &Stamped) -> Option<PaperNo>
     }
 }
 
-/// The papers of which the entries are reviews, as often as they are.
+/// Returns the papers of the entries that are reviews, each as often as it is named.
 fn papers_reviewed(alloc: Global, group: &[Stamped]) -> Result<Vec<PaperNo>, AllocError>
     ensures { IfOk result (λ papers. papers.items ≡ filter_map paper_reviewed group.now) }
 {

@@ -1,7 +1,16 @@
-//! Room in tables that keep together what they have of a paper, or of a user: for how many more values of each number
-//! there is room, and what becomes of it as values come in.
+//! Reserved capacity of the tables: for how many more values of each paper and user there is room. It depends on a
+//! group of entries, since these name the papers and users. The definitions and lemmas that every table cites are here
+//! (`HasRoom`, `IsNoLess`, `IsOneLess`), and no code.
 //!
-//! Room is told of a group of entries, never as one number: how much a group needs depends on which papers and users it
-//! names. The definitions stand in this crate's specs, the laws about them in its proofs, which the proofs of each
-//! table cite. No code stands here.
+//! # What every table proves
+//!
+//! In cr_accounts, cr_papers, cr_conflicts, cr_assign, cr_reviews, cr_talk, cr_tags and cr_decisions:
+//!
+//! - An entry changes the table as defined, without memory once there is room: `apply` (`after`).
+//! - Making room changes nothing else, and fails only if memory runs out: `room` (`ok`, `same`).
+//! - Commands are judged exactly, each by the first broken rule of its list: functions that begin with `judge_`.
+//!   Conflicts and reviewers are judged on the table followed by the earlier entries of the same bulk.
+//! - What is kept by user agrees with what is kept by paper: the types' invariants.
+//! - Listing or searching a paper's records takes a step for each of their kind; a single record takes at most one,
+//!   and one if it is there: `steps`, `told`.
 #![tactic(auto)]

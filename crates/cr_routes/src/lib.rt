@@ -1,8 +1,16 @@
 //! The paths that the server knows, their methods, and what a method at a path asks for.
 //!
-//! One table lists the paths (`specs/Paths.antt`) and one function what a method asks for there
-//! (`specs/Asks.antt`); the field `Allow` of a 405 answer follows from the two. What the table means, parameters too,
-//! stands in `specs/Parts.antt`, without a router; `Routes::find` finds just that with one.
+//! One table lists the paths (`specs/Paths.antt`), one function what a method asks for (`specs/Asks.antt`).
+//! `specs/Parts.antt` says what the table means, without a router.
+//!
+//! # Proved
+//!
+//! - A path is found exactly as its parts say, with its parameters, each one nonempty part: `Routes::find`. The router
+//!   is `matchit`.
+//! - Each listed path has its resource, and none has more than two parameters. The empty path and one without a
+//!   leading slash have none: `law_paths` (`listed`, `few`, `rooted`, `empty`).
+//! - A method asks for exactly what the table says; `Allow` names exactly the methods that ask for something:
+//!   `Resource::ask`, `Resource::allow` (`methods`).
 #![tactic(auto)]
 
 mod laws;

@@ -11,13 +11,13 @@ use matchit::Params;
 pub struct Matched<'p> {
     /// Which of the server's paths it is.
     pub resource: Resource,
-    /// What its first parameter took: one part of the path, of at least one byte. None where it has no parameter.
+    /// What its first parameter took: one part of the path, of at least one byte. `None` if it has no parameter.
     pub first: Option<&'p str>,
-    /// What its second parameter took, in the same way.
+    /// What its second parameter took, as the first.
     pub second: Option<&'p str>,
 }
 
-/// What the first two parameters of a match took.
+/// Returns what the first two parameters of a match took.
 pub(crate) fn taken<'p>(params: &Params<'_, 'p>) -> (Option<&'p str>, Option<&'p str>)
     requires { AreTexts (walked params.now.pattern.now params.now.text.now params.now.path.now params.now.names.now) }
     ensures first { option_map (λ t. t.now) result.0

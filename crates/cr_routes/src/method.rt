@@ -10,17 +10,21 @@ pub enum Method {
     Head,
     /// Sends a command.
     Post,
-    /// Sends what is to stand at the path.
+    /// Sends what is to be at the path.
     Put,
-    /// Asks that what stands at the path be taken away.
+    /// Asks that what is at the path be removed.
     Delete,
 }
 
 impl Method {
     ghost use Rattle.cr_routes.specs.Methods.{method_of};
 
-    /// The method of this name. Names are case-sensitive (RFC 9110, section 9.1), and a method that no path of the
-    /// server answers is None. Costs no allocation.
+    /// Returns the method of this name. Names are case-sensitive (RFC 9110, section 9.1), and a method that no path of
+    /// the server answers is None.
+    ///
+    /// # Cost
+    ///
+    /// No allocation.
     pub fn read(name: &[u8]) -> Option<Method>
         ensures { result ≡ method_of name.now }
     {

@@ -27,33 +27,33 @@ pub enum Resource {
     Papers,
     /// `/papers/{p}`: one part of any bytes, at least one, follows `/papers/`.
     Paper,
-    /// `/papers/{p}/content`: one such part stands between the slashes.
+    /// `/papers/{p}/content`.
     Content,
-    /// `/papers/{p}/content/{v}`: one such part stands between the slashes, and one at the end.
+    /// `/papers/{p}/content/{v}`.
     Version,
-    /// `/papers/{p}/conflicts`: one such part stands between the slashes.
+    /// `/papers/{p}/conflicts`.
     Conflicts,
-    /// `/papers/{p}/bid`: one such part stands between the slashes.
+    /// `/papers/{p}/bid`.
     Bid,
-    /// `/papers/{p}/reviewers`: one such part stands between the slashes.
+    /// `/papers/{p}/reviewers`.
     Reviewers,
-    /// `/papers/{p}/reviewers/{u}`: one such part stands between the slashes, and one at the end.
+    /// `/papers/{p}/reviewers/{u}`.
     Reviewer,
-    /// `/papers/{p}/externals`: one such part stands between the slashes.
+    /// `/papers/{p}/externals`.
     Externals,
-    /// `/papers/{p}/externals/{u}`: one such part stands between the slashes, and one at the end.
+    /// `/papers/{p}/externals/{u}`.
     External,
-    /// `/papers/{p}/review`: one such part stands between the slashes.
+    /// `/papers/{p}/review`.
     Review,
-    /// `/papers/{p}/reviews`: one such part stands between the slashes.
+    /// `/papers/{p}/reviews`.
     Reviews,
-    /// `/papers/{p}/response`: one such part stands between the slashes.
+    /// `/papers/{p}/response`.
     Response,
-    /// `/papers/{p}/comments`: one such part stands between the slashes.
+    /// `/papers/{p}/comments`.
     Comments,
-    /// `/papers/{p}/tags/{t}`: one such part stands between the slashes, and one at the end.
+    /// `/papers/{p}/tags/{t}`.
     Tag,
-    /// `/papers/{p}/decision`: one such part stands between the slashes.
+    /// `/papers/{p}/decision`.
     Decision,
     /// `/me`
     Me,
@@ -78,7 +78,7 @@ pub enum Resource {
 impl Resource {
     ghost use Rattle.cr_routes.specs.Asks.{ask_at, allow_text, route_at};
 
-    /// What a GET asks for at this path, and so a HEAD, or None where the path answers neither.
+    /// Returns what a GET asks for at this path, and so a HEAD, or `None` if the path answers neither.
     fn read(self) -> Option<Ask>
         ensures { result ≡ route_at self Method.Get }
     {
@@ -105,7 +105,7 @@ impl Resource {
         }
     }
 
-    /// What a method asks for at this path, or None where the path doesn't answer that method.
+    /// Returns what a method asks for at this path, or `None` if the path doesn't answer that method.
     pub fn ask(self, method: Method) -> Option<Ask>
         ensures { result ≡ ask_at self method }
     {
@@ -138,8 +138,12 @@ impl Resource {
         }
     }
 
-    /// The value of the field `Allow` here: the path's methods, sorted as words are, `, ` between each two
-    /// (RFC 9110, section 10.2.1). At most 32 bytes.
+    /// Returns the value of the field `Allow` here: the path's methods, sorted as words are, `, ` between each two
+    /// (RFC 9110, section 10.2.1).
+    ///
+    /// # Cost
+    ///
+    /// At most 32 bytes.
     pub fn allow(self) -> &'static str
         ensures methods { result.now ≡ allow_text self }
         ensures short { length result.now ≤ 32 }

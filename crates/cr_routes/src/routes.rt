@@ -80,16 +80,19 @@ pub struct Routes {
 impl Routes {
     ghost use Rattle.cr_routes.specs.Parts.{found_at, seen};
 
-    /// The router over all paths. Fails only for lack of memory.
+    /// Returns the router over all paths. Fails only for lack of memory.
     pub fn new(alloc: Global) -> Result<Routes, AllocError> {
         let mut router = Router::new(alloc);
         add_all(&mut router, &PATHS)?;
         Ok(Routes { router })
     }
 
-    /// The resource of a path with what its parameters took, or None where the server doesn't know the path. Case
-    /// counts, nothing is decoded, and a parameter takes one part that isn't empty. Reads the path once, and its
-    /// parameters once more; costs no allocation, since the parts are lent.
+    /// Returns the resource of a path with what its parameters took, or `None` if the server doesn't know the path.
+    /// Case counts, nothing is decoded, and a parameter takes one part that isn't empty.
+    ///
+    /// # Cost
+    ///
+    /// Reads the path once, and its parameters once more; costs no allocation, since the parts are lent.
     pub fn find<'p>(&self, path: &'p str) -> Option<Matched<'p>>
         ensures { option_map seen result ≡ found_at path.now }
     {

@@ -20,16 +20,16 @@ const MOST_BYTES: usize = 1_024;
 pub enum ParseError {
     /// It is none.
     BadQuery {
-        /// Up to here it could still have become one, in bytes from its start: one of its ends, or where a parenthesis
-        /// or a chunk, which is what stands between those and spaces, begins or ends. At most its length; of a text of
-        /// more than 1,024 bytes always 1,024.
+        /// Up to here it could still have become a search, in bytes from its start: one of its ends, or where a
+        /// parenthesis or a chunk, which is what comes between those and spaces, begins or ends. At most its length;
+        /// of a text of more than 1,024 bytes always 1,024.
         offset: usize,
     },
     /// Memory ran out.
     OutOfMemory,
 }
 
-/// The error of a reader that stops at an offset.
+/// Returns the error of a reader that stops at an offset.
 fn error_at(stop: Stop, offset: usize) -> ParseError
     ensures { result ≡ stopped_at stop offset }
 {
@@ -39,7 +39,7 @@ fn error_at(stop: Stop, offset: usize) -> ParseError
     }
 }
 
-/// The steps of a text, or where reading stops.
+/// Returns the steps of a text, or where reading stops.
 fn read_steps(alloc: Global, text: &[u8]) -> Result<Vec<Step>, ParseError>
     requires { length text.now ≤ 1024 }
     ensures { Reads result text.now }
@@ -59,10 +59,18 @@ fn read_steps(alloc: Global, text: &[u8]) -> Result<Vec<Step>, ParseError>
     }
 }
 
-/// The search that a text is, or `BadQuery`: where the text stops being the beginning of one. It is none if it has
-/// more than 1,024 bytes or more than 128 terms, or if an item stands inside more than 64 of dashes, `NOT`s and
-/// parentheses. `OutOfMemory` may come of any text of at most 1,024 bytes. Memory is taken for the steps, the terms
-/// and the open parentheses alone. It costs a few looks at each byte, and none at those of a longer text.
+/// Returns the search that a text is.
+///
+/// # Errors
+///
+/// - `BadQuery`: where the text stops being the beginning of a search. A text is none if it has more than 1,024 bytes
+///   or 128 terms, or an item inside more than 64 of dashes, `NOT`s and parentheses.
+/// - `OutOfMemory`: for any text of at most 1,024 bytes.
+///
+/// # Cost
+///
+/// A few looks at each byte, and none at those of a longer text. Takes memory only for the steps, the terms and the
+/// open parentheses.
 pub fn parse(alloc: Global, text: &[u8]) -> Result<Search, ParseError>
     ensures found { IfOk result (λ search. Spells text.now (tree_of search)) }
     ensures only { (tree : Option Tree) → Spells text.now tree → IsFound result (all_steps tree) }

@@ -16,7 +16,7 @@ use crate::terms::{is_and, is_not, is_or, read_term};
 use cr_base::{Step, Term};
 use std::alloc::{AllocError, AllocFailed, Global};
 
-/// How many dashes, `NOT`s and parentheses an item may stand inside.
+/// How many dashes, `NOT`s and parentheses an item may be inside of.
 const MOST_DEPTH: u16 = 64;
 
 /// How many terms a search may have.
@@ -25,7 +25,7 @@ const MOST_TERMS: u16 = 128;
 /// Why a reader reads no further.
 #[derive(Drop)]
 pub(crate) enum Stop {
-    /// What comes can't stand here in a search.
+    /// What comes can't come here in a search.
     Misplaced,
     /// Memory ran out.
     OutOfMemory,
@@ -67,7 +67,7 @@ enum Next {
 }
 
 /// What was read between two parentheses, in steps of the reader's: those of the alternatives that have ended, and
-/// behind them those of the items that have.
+/// after them those of the items that have.
 #[derive(Clone, Copy)]
 struct Level {
     alternatives: u16,
@@ -85,12 +85,12 @@ pub(crate) struct Reader {
     around: Vec<Level>,
     level: Level,
     next: Next,
-    /// How many dashes, `NOT`s and parentheses the level that is read stands inside.
+    /// How many dashes, `NOT`s and parentheses the level that is read is inside of.
     outside: u16,
     terms: u16,
 }
 
-/// A level in which nothing was read.
+/// Returns a level in which nothing was read.
 fn no_level() -> Level
     ensures { result ≡ record { alternatives = 0; items = 0; negations = 0 } }
 {
@@ -111,7 +111,7 @@ fn push_negations(steps: &mut Vec<Step>, count: u16) -> Result<(), AllocError>
     Ok(())
 }
 
-/// Adds an operation behind its second operand, where there is a first one, which has so many steps.
+/// Adds an operation after its second operand, if there is a first one, which has so many steps.
 fn push_behind(steps: &mut Vec<Step>, first: u16, operation: Step) -> Result<(), AllocError>
     ensures { OnOk result (steps.new.items ≡ steps.old.items ++ operation_behind first operation) }
 {
@@ -122,7 +122,7 @@ fn push_behind(steps: &mut Vec<Step>, first: u16, operation: Step) -> Result<(),
     Ok(())
 }
 
-/// How many steps these two operands are with their operation.
+/// Returns how many steps these two operands are with their operation.
 fn count_behind(first: u16, second: u16) -> u16
     requires { first + second < 65535 }
     ensures { result ≡ count_behind first second }
@@ -167,7 +167,11 @@ fn end_item(steps: &mut Vec<Step>, level: Level, count: u16) -> Result<Level, Al
 }
 
 impl Reader {
-    /// A reader that has read nothing; takes no memory.
+    /// Returns a reader that has read nothing.
+    ///
+    /// # Cost
+    ///
+    /// Takes no memory.
     pub(crate) fn new(alloc: Global) -> Reader
         ensures stands { Stands result start }
         ensures light { weight result ≡ 0 }
@@ -232,7 +236,7 @@ impl Reader {
         Ok(())
     }
 
-    /// Reads a negation: behind it comes this.
+    /// Reads a negation, followed by `next`.
     fn negation(&mut self, next: Next) -> Result<(), Stop>
         requires stands { StandsForOne self.old }
         requires light { weight self.old < 60000 }
@@ -364,7 +368,7 @@ impl Reader {
         }
     }
 
-    /// The steps of what was read, where it may end so.
+    /// Returns the steps of what was read, if it may end so.
     pub(crate) fn finish(self) -> Result<Vec<Step>, Stop>
         requires stands { StandsForOne self }
         requires light { weight self < 60000 }

@@ -17,7 +17,7 @@ pub(crate) enum Run<'a> {
 }
 
 impl Run<'_> {
-    /// How many bytes it has.
+    /// Returns how many bytes it has.
     pub(crate) fn len(&self) -> usize
         ensures { result ≡ run_length (run_told self.now) }
     {
@@ -29,7 +29,7 @@ impl Run<'_> {
     }
 }
 
-/// How many spaces a text begins with.
+/// Returns how many spaces a text begins with.
 fn spaces_len(text: &[u8]) -> usize
     ensures count { result ≡ spaces_length text.now }
     ensures within { result ≤ length text.now }
@@ -42,15 +42,15 @@ fn spaces_len(text: &[u8]) -> usize
     text.len()
 }
 
-/// Whether a byte ends a chunk, where it stands outside quotation marks.
+/// Returns whether a byte outside quotation marks ends a chunk.
 fn ends_chunk(byte: u8) -> bool
     ensures { result ≡ ends_chunk byte }
 {
     byte == b' ' || byte == b'(' || byte == b')'
 }
 
-/// How many bytes the chunk has that a text begins with: a quotation mark takes in all up to the next such mark, or
-/// to the end where none follows.
+/// Returns how many bytes the chunk has that a text begins with: a quotation mark takes in all up to the next such
+/// mark, or to the end where none follows.
 fn chunk_len(text: &[u8]) -> usize
     ensures count { result ≡ chunk_length false text.now }
     ensures within { result ≤ length text.now }
@@ -67,7 +67,7 @@ fn chunk_len(text: &[u8]) -> usize
     text.len()
 }
 
-/// The run that a text begins with.
+/// Returns the run that a text begins with.
 pub(crate) fn first_run(text: &[u8]) -> Run<'_>
     requires { 0 < length text.now }
     ensures first { runs_of text.now ≡ run_told result ∷ runs_of (drop (run_length (run_told result)) text.now) }

@@ -15,42 +15,42 @@ ghost use Rattle.cr_search_parse.specs.Terms.{is_colon, has_colon, term_of};
 use cr_base::{Blob, Decision, Feature, Status, Tag, Term};
 use std::alloc::{AllocError, Global};
 
-/// Whether a byte may stand between quotation marks: no control character's, and no quotation mark.
+/// Returns whether a byte may be between quotation marks: no control character's, and no quotation mark.
 fn is_quoted_byte(byte: u8) -> bool
     ensures { result ≡ is_quoted_byte byte }
 {
     byte >= 0x20 && byte != 0x7f && byte != b'"'
 }
 
-/// Whether it may stand in a word: it is neither a space nor a parenthesis either.
+/// Returns whether a byte may be in a word: one that may be quoted, and no space or parenthesis.
 fn is_word_byte(byte: u8) -> bool
     ensures { result ≡ is_word_byte byte }
 {
     is_quoted_byte(byte) && byte != b' ' && byte != b'(' && byte != b')'
 }
 
-/// Whether each byte may stand between quotation marks.
+/// Returns whether each byte may be between quotation marks.
 fn all_quoted_bytes(text: &[u8]) -> bool
     ensures { result ≡ list_all is_quoted_byte text.now }
 {
     text.iter().all(|byte| is_quoted_byte(*byte))
 }
 
-/// Whether each byte may stand in a word.
+/// Returns whether each byte may be in a word.
 fn all_word_bytes(text: &[u8]) -> bool
     ensures { result ≡ list_all is_word_byte text.now }
 {
     text.iter().all(|byte| is_word_byte(*byte))
 }
 
-/// Whether these bytes are a word.
+/// Returns whether these bytes are a word.
 fn is_word(text: &[u8]) -> bool
     ensures { result ≡ is_word_text text.now }
 {
     !text.is_empty() && all_word_bytes(text)
 }
 
-/// Whether this byte stands first.
+/// Returns whether this byte is the first.
 fn begins_with(byte: u8, text: &[u8]) -> bool
     ensures { result ≡ begins byte text.now }
 {
@@ -60,7 +60,7 @@ fn begins_with(byte: u8, text: &[u8]) -> bool
     }
 }
 
-/// What stands behind the first byte.
+/// Returns the bytes after the first.
 fn behind_first(text: &[u8]) -> &[u8]
     ensures { result.now ≡ behind text.now }
 {
@@ -70,7 +70,7 @@ fn behind_first(text: &[u8]) -> &[u8]
     &text[1..]
 }
 
-/// The text, where it may stand between quotation marks.
+/// Returns the text, if it may be between quotation marks.
 fn inside(text: &[u8]) -> Option<&[u8]>
     ensures { option_copied result ≡ (if list_all is_quoted_byte text.now then Some text.now else None) }
 {
@@ -80,7 +80,7 @@ fn inside(text: &[u8]) -> Option<&[u8]>
     None
 }
 
-/// What stands before the closing quotation mark, which ends the text.
+/// Returns the text before the closing quotation mark, which ends it.
 fn before_closing(text: &[u8]) -> Option<&[u8]>
     ensures { option_copied result ≡ closed text.now }
 {
@@ -94,7 +94,7 @@ fn before_closing(text: &[u8]) -> Option<&[u8]>
     inside(&text[..last])
 }
 
-/// The text between two quotation marks.
+/// Returns the text between two quotation marks.
 fn quoted(text: &[u8]) -> Option<&[u8]>
     ensures { option_copied result ≡ quoted_text text.now }
 {
@@ -104,7 +104,7 @@ fn quoted(text: &[u8]) -> Option<&[u8]>
     None
 }
 
-/// A value: a quoted text, or a word.
+/// Returns a value: a quoted text, or a word.
 fn term_value(text: &[u8]) -> Option<&[u8]>
     ensures { option_copied result ≡ value_text text.now }
 {
@@ -117,7 +117,7 @@ fn term_value(text: &[u8]) -> Option<&[u8]>
     None
 }
 
-/// The bytes of a text that may be there.
+/// Returns the bytes of a text that may be there.
 fn kept(alloc: Global, text: Option<&[u8]>) -> Result<Option<Blob>, AllocError>
     ensures { IfOk result (λ kept. kept ≡ option_copied text.entry) }
 {
@@ -127,7 +127,7 @@ fn kept(alloc: Global, text: Option<&[u8]>) -> Result<Option<Blob>, AllocError>
     }
 }
 
-/// The decision that a word asks for.
+/// Returns the decision that a word asks for.
 fn decision_asked(word: &[u8]) -> Option<Option<Decision>>
     ensures { result ≡ decision word.now }
 {
@@ -143,7 +143,7 @@ fn decision_asked(word: &[u8]) -> Option<Option<Decision>>
     None
 }
 
-/// The standing that a word asks for.
+/// Returns the standing that a word asks for.
 fn status_asked(word: &[u8]) -> Option<Status>
     ensures { result ≡ status word.now }
 {
@@ -159,7 +159,7 @@ fn status_asked(word: &[u8]) -> Option<Status>
     None
 }
 
-/// What a word asks that a paper has.
+/// Returns the feature that a word asks for.
 fn feature_asked(word: &[u8]) -> Option<Feature>
     ensures { result ≡ feature word.now }
 {
@@ -187,7 +187,11 @@ fn feature_asked(word: &[u8]) -> Option<Feature>
     None
 }
 
-/// The term of a key and what stands behind its colon; an error only for lack of memory.
+/// Returns the term of a key and what follows its colon.
+///
+/// # Errors
+///
+/// If memory runs out.
 fn keyed(alloc: Global, key: &[u8], value: &[u8]) -> Result<Option<Term>, AllocError>
     ensures { IfOk result (λ term. term ≡ keyed_term key.now value.now) }
 {
@@ -215,28 +219,28 @@ fn keyed(alloc: Global, key: &[u8], value: &[u8]) -> Result<Option<Term>, AllocE
     Ok(None)
 }
 
-/// Whether this is the word between two items that both hold.
+/// Returns whether this is the word between two items that both hold.
 pub(crate) fn is_and(word: &[u8]) -> bool
     ensures { result ≡ and_word word.now }
 {
     word == b"AND".as_slice()
 }
 
-/// Whether this is the word between alternatives.
+/// Returns whether this is the word between alternatives.
 pub(crate) fn is_or(word: &[u8]) -> bool
     ensures { result ≡ or_word word.now }
 {
     word == b"OR".as_slice()
 }
 
-/// Whether this is the word before an item that doesn't hold.
+/// Returns whether this is the word before an item that doesn't hold.
 pub(crate) fn is_not(word: &[u8]) -> bool
     ensures { result ≡ not_word word.now }
 {
     word == b"NOT".as_slice()
 }
 
-/// Whether a word without a colon is a plain text.
+/// Returns whether a word without a colon is a plain text.
 fn is_plain(word: &[u8]) -> bool
     ensures { result ≡ plain_word word.now }
 {
@@ -248,7 +252,7 @@ fn is_plain(word: &[u8]) -> bool
         && !is_not(word)
 }
 
-/// Where the first colon stands.
+/// Returns the place of the first colon.
 fn colon(text: &[u8]) -> Option<usize>
     ensures within { IfSome result (λ at. at < length text.now) }
     ensures before { IfSome result (λ at. take at text.now ≡ until is_colon text.now) }
@@ -264,7 +268,11 @@ fn colon(text: &[u8]) -> Option<usize>
     None
 }
 
-/// The one term of a chunk, where it is one; an error only for lack of memory.
+/// Returns the one term of a chunk, if it is one.
+///
+/// # Errors
+///
+/// If memory runs out.
 pub(crate) fn read_term(alloc: Global, text: &[u8]) -> Result<Option<Term>, AllocError>
     ensures { IfOk result (λ term. term ≡ term_of text.now) }
 {

@@ -19,8 +19,12 @@ use crate::ties::{bid, conflict};
 use cr_base::{Entry, Stamped, UserNo};
 use cr_view::Live;
 
-/// What an entry shows a user by the tables of the whole history, and none where it shows her nothing. `position`
-/// tells where it stands among the entries of its series. A few look-ups; takes no memory.
+/// Returns what an entry shows a reader by the tables of the whole history, or `None` if it shows the reader nothing.
+/// `position` is its place among the entries of its series.
+///
+/// # Cost
+///
+/// A few look-ups. Takes no memory.
 pub fn sight<'a>(
     live: &Live,
     reader: UserNo,

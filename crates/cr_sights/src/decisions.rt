@@ -13,28 +13,30 @@ use crate::sighting::{Sighting, of_stamp};
 use cr_base::{Entry, EntryKind, Stamped, Standing, UserNo};
 use cr_view::Live;
 
-/// Whether she reads what is decided of a paper: members in no conflict with it do, once members read decisions.
+/// Returns whether the reader reads what is decided of a paper: unconflicted members do, once members read decisions.
 fn reads_decisions(by: &Standing) -> bool
     ensures { result ≡ (is_clear_member by.now && members_read_decisions by.now.phase) }
 {
     by.is_clear_member() && by.phase.members_read_decisions()
 }
 
-/// Whether a decision is what became of her paper: for its authors the last one is, once authors read decisions.
+/// Returns whether a decision is what became of their paper: for its authors the last one is, once authors read
+/// decisions.
 fn is_outcome(by: &Standing, is_last: bool) -> bool
     ensures { result ≡ (is_last && by.now.author && authors_read_decisions by.now.phase) }
 {
     is_last && by.author && by.phase.authors_read_decisions()
 }
 
-/// Whether everyone is told of a decision: of the last on an accepted paper.
+/// Returns whether everyone is told of a decision: of the last on an accepted paper.
 fn is_announced(is_last: bool, accepted: bool) -> bool
     ensures { result ≡ (is_last && accepted) }
 {
     is_last && accepted
 }
 
-/// Whether she is shown what was decided: who reads what is decided is, whose paper it became of, and who decided.
+/// Returns whether the reader is shown what was decided: a user who reads what is decided is, whose paper it became
+/// of, and the user who decided.
 fn shows_decision(by: &Standing, is_last: bool, mine: bool) -> bool
     ensures { result ≡ ((is_clear_member by.now && members_read_decisions by.now.phase)
         || ((is_last && by.now.author && authors_read_decisions by.now.phase) || mine)) }
@@ -42,7 +44,8 @@ fn shows_decision(by: &Standing, is_last: bool, mine: bool) -> bool
     reads_decisions(by) || is_outcome(by, is_last) || mine
 }
 
-/// Whether she is told of a decision: who is shown what was decided is, and of the last on an accepted paper everyone.
+/// Returns whether the reader is told of a decision: a user who is shown what was decided is, and of the last on an
+/// accepted paper everyone.
 fn tells_decision(by: &Standing, is_last: bool, accepted: bool, mine: bool) -> bool
     ensures { result ≡ ((is_clear_member by.now && members_read_decisions by.now.phase)
         || ((is_last && by.now.author && authors_read_decisions by.now.phase)
@@ -51,8 +54,9 @@ fn tells_decision(by: &Standing, is_last: bool, accepted: bool, mine: bool) -> b
     shows_decision(by, is_last, mine) || is_announced(is_last, accepted)
 }
 
-/// What a decision shows her: its paper, what was decided where she may know that, and that it is what became of her
-/// paper, or that the paper is accepted, where it is so; or nothing where she isn't told of it.
+/// Returns what a decision shows the reader: its paper, what was decided where the reader may know that, and that it
+/// is what became of their paper, or that the paper is accepted, if it is so; or nothing where the reader isn't told
+/// of it.
 pub(crate) fn decision<'a>(
     live: &Live,
     reader: UserNo,

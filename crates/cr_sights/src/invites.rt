@@ -12,8 +12,8 @@ use crate::sighting::{Sighting, of_stamp};
 use cr_base::{Entry, EntryKind, PaperNo, Stamped, UserNo};
 use cr_view::Live;
 
-/// Whether she is told that a user is invited to the paper, or no longer: who is named, who made the entry, and clear
-/// chairs.
+/// Returns whether the reader is told that a user is invited to the paper, or no longer: a user who is named, a user
+/// who made the entry, and unconflicted chairs.
 fn tells_invite(live: &Live, reader: UserNo, maker: UserNo, paper: PaperNo, user: UserNo) -> bool
     ensures { let r = reader_in live.now.tables (Some reader) in
         result ≡ (user_named r user || (is_clear_chair (standing_to r paper) || user_named r maker)) }
@@ -22,7 +22,7 @@ fn tells_invite(live: &Live, reader: UserNo, maker: UserNo, paper: PaperNo, user
     user == reader || by.is_clear_chair() || maker == reader
 }
 
-/// What an invitation shows her: all of it, or nothing where she isn't told of it.
+/// Returns what an invitation shows the reader: all of it; `None` if the reader isn't told of it.
 pub(crate) fn invitation<'a>(
     live: &Live,
     reader: UserNo,
@@ -43,7 +43,7 @@ pub(crate) fn invitation<'a>(
     Some(sighting)
 }
 
-/// What the end of an invitation shows her, the same way.
+/// Returns what the end of an invitation shows the reader: all of it; `None` if the reader isn't told of it.
 pub(crate) fn uninvitation<'a>(
     live: &Live,
     reader: UserNo,

@@ -1,7 +1,16 @@
-//! What a user sees of a history, entry by entry, found in the tables: no view is made in memory.
+//! What an entry shows a user, found in the tables, and the lines of a view, made without a view in memory. Of any
+//! history, legal or not.
 //!
-//! `sight` gives what one entry shows, by the tables and by where it stands among those of its series; `write_view`
-//! writes it line by line, `view_len` counts the lines.
+//! # Proved
+//!
+//! - What an entry shows is what the policy says, also to its actor: `sight`.
+//! - The view is written line by line: whole, or up to a failed write or lack of memory. A write's fault means that
+//!   the sink's counter rose: `write_view`.
+//! - Unless memory runs out, the length is the number of its lines: `view_len`.
+//!
+//! # Tested
+//!
+//! - The length of a view: tests_of_books.
 #![tactic(auto)]
 
 mod by_kind;

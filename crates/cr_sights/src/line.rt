@@ -14,7 +14,7 @@ use cr_base::{CommandNumber, EntryKind, UserNo};
 use cr_json::Object;
 use std::alloc::AllocError;
 
-/// The user whom an entry is about; of a bid that is who made it.
+/// Returns the user that an entry is about; of a bid the bidder.
 fn user_told<'a>(sighting: &'a Sighting) -> Option<&'a UserNo>
     ensures { let s = sighting.now in option_copied result ≡ user_told s.kind s.by s.user }
 {
@@ -24,7 +24,7 @@ fn user_told<'a>(sighting: &'a Sighting) -> Option<&'a UserNo>
     }
 }
 
-/// Who wrote a comment.
+/// Returns who wrote a comment.
 fn writer_told<'a>(sighting: &'a Sighting) -> Option<&'a UserNo>
     ensures { let s = sighting.now in option_copied result ≡ writer_told s.kind s.by }
 {
@@ -34,7 +34,7 @@ fn writer_told<'a>(sighting: &'a Sighting) -> Option<&'a UserNo>
     }
 }
 
-/// Who made an entry, beside both of these.
+/// Returns who made an entry, beside both of these.
 fn by_told<'a>(sighting: &'a Sighting) -> Option<&'a UserNo>
     ensures { let s = sighting.now in option_copied result ≡ by_told s.kind s.by }
 {
@@ -44,7 +44,7 @@ fn by_told<'a>(sighting: &'a Sighting) -> Option<&'a UserNo>
     }
 }
 
-/// The number that its client gave the command of the reader's own entry, where it gave one.
+/// Returns the number that its client gave the command of the reader's own entry, if it gave one.
 fn number_told<'a>(sighting: &'a Sighting) -> Option<&'a CommandNumber>
     ensures { option_copied result ≡ number_told (sighting.now).key }
 {
@@ -143,7 +143,11 @@ fn add_last(object: &mut Object, into: &mut Vec<u8>, sighting: &Sighting) -> Res
     Ok(())
 }
 
-/// Appends a sighting as one JSON object and a line feed; an error only for lack of memory.
+/// Appends what an entry shows as one JSON object and a line feed.
+///
+/// # Errors
+///
+/// If memory runs out.
 fn append_line(into: &mut Vec<u8>, sighting: &Sighting) -> Result<(), AllocError>
     ensures { Appends result into.old into.new (line_text sighting.now) }
 {
@@ -159,7 +163,11 @@ fn append_line(into: &mut Vec<u8>, sighting: &Sighting) -> Result<(), AllocError
     Ok(())
 }
 
-/// Makes the buffer hold a sighting's line, or nothing where there is none; an error only for lack of memory.
+/// Makes the buffer hold the line of what an entry shows, or nothing if it shows nothing.
+///
+/// # Errors
+///
+/// If memory runs out.
 pub(crate) fn fill(line: &mut Vec<u8>, sighting: &Option<Sighting>) -> Result<(), AllocError>
     ensures { OnOk result (line.new.items ≡ lines_text (listed sighting.now)) }
 {

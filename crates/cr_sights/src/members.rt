@@ -18,13 +18,21 @@ pub(crate) trait Part {
     /// Its text in JSON.
     ghost text: { Self → List ℕ };
 
-    /// Writes it as the member of a key; an error only for lack of memory.
+    /// Writes it as the member of a key.
+    ///
+    /// # Errors
+    ///
+    /// If memory runs out.
     fn write(&self, object: &mut Object, into: &mut Vec<u8>, key: &str) -> Result<(), AllocError>
         ensures { AddsMembers result into.old into.new object.old.is_first object.new.is_first
             (member_of key.now (Some (text self.now))) };
 }
 
-/// Writes a part as the member of a key, where it is shown; an error only for lack of memory.
+/// Writes a part as the member of a key, if it is shown.
+///
+/// # Errors
+///
+/// If memory runs out.
 pub(crate) fn add<P: Part>(
     object: &mut Object,
     into: &mut Vec<u8>,
@@ -40,7 +48,7 @@ pub(crate) fn add<P: Part>(
     }
 }
 
-/// The lower-case hexadecimal digits of a digest.
+/// Returns the lower-case hexadecimal digits of a digest.
 fn digits_of(digest: Digest) -> [u8; 64]
     ensures { result ≡ encode_lower digest }
 {
@@ -49,7 +57,7 @@ fn digits_of(digest: Digest) -> [u8; 64]
     digits
 }
 
-/// A user by her number.
+/// A user by their number.
 impl Part for UserNo {
     ghost text = { decimal };
 

@@ -17,7 +17,7 @@ use cr_anonymity::shows_author;
 use cr_base::{Blob, Entry, EntryKind, PaperNo, Stamped, Standing, Text, UserNo};
 use cr_view::Live;
 
-/// Whether she is shown the title of a submission or a revision.
+/// Returns whether the reader is shown the title of a submission or a revision.
 fn shows_title(by: &Standing, mine: bool, is_last: bool, accepted: bool) -> bool
     ensures { result ≡ (by.now.author
         || ((is_last && is_member by.now.role && members_see_papers by.now.phase)
@@ -31,7 +31,7 @@ fn shows_title(by: &Standing, mine: bool, is_last: bool, accepted: bool) -> bool
         || mine
 }
 
-/// Whether she is shown the abstract of a submission or a revision.
+/// Returns whether the reader is shown the abstract of a submission or a revision.
 fn shows_abstract(by: &Standing, mine: bool, is_last: bool, accepted: bool) -> bool
     ensures { result ≡ (by.now.author
         || ((is_last && reads_paper by.now && members_see_papers by.now.phase)
@@ -41,9 +41,9 @@ fn shows_abstract(by: &Standing, mine: bool, is_last: bool, accepted: bool) -> b
     by.author || is_last && by.reads_paper() && by.phase.members_see_papers() || published || mine
 }
 
-/// Whether she is told that a user is an author of a paper: its authors are, who made the entry, clear chairs from
-/// the bidding, and clear members and externals too where the mode isn't anonymous; and everyone, where the paper is
-/// accepted.
+/// Returns whether the reader is told that a user is an author of a paper: its authors are, a user who made the entry,
+/// unconflicted chairs from the bidding, and unconflicted members and externals too where the mode isn't anonymous;
+/// and everyone, if the paper is accepted.
 fn tells_coauthor(live: &Live, reader: UserNo, maker: UserNo, paper: PaperNo) -> bool
     ensures { let r = reader_in live.now.tables (Some reader) in
         result ≡ (authors r paper || ((is_clear_chair (standing_to r paper) && committee_sees_authors r.now)
@@ -54,8 +54,9 @@ fn tells_coauthor(live: &Live, reader: UserNo, maker: UserNo, paper: PaperNo) ->
     shows_author(&by, live.is_accepted(paper)) || maker == reader
 }
 
-/// Whether she is told of a revision of a paper: its authors are, who made it, and of the last that gives the paper
-/// texts members and clear externals from the bidding, and everyone, where the paper is accepted.
+/// Returns whether the reader is told of a revision of a paper: its authors are, a user who made it, and of the last
+/// that gives the paper texts members and unconflicted externals from the bidding, and everyone, if the paper is
+/// accepted.
 fn tells_revision(live: &Live, reader: UserNo, maker: UserNo, is_last: bool, paper: PaperNo) -> bool
     ensures { let r = reader_in live.now.tables (Some reader) in
         result ≡ (authors r paper || ((is_last && members r && members_see_papers r.now)
@@ -67,8 +68,8 @@ fn tells_revision(live: &Live, reader: UserNo, maker: UserNo, is_last: bool, pap
     shows_title(&by, maker == reader, is_last, live.is_accepted(paper))
 }
 
-/// Whether she is told of an upload to a paper: its authors are, who made it, and of the last one clear members and
-/// externals from the bidding, and everyone, where the paper is published.
+/// Returns whether the reader is told of an upload to a paper: its authors are, a user who made it, and of the last
+/// one unconflicted members and externals from the bidding, and everyone, if the paper is published.
 fn tells_upload(live: &Live, reader: UserNo, maker: UserNo, is_last: bool, paper: PaperNo) -> bool
     ensures { let r = reader_in live.now.tables (Some reader) in
         result
@@ -83,8 +84,8 @@ fn tells_upload(live: &Live, reader: UserNo, maker: UserNo, is_last: bool, paper
         || maker == reader
 }
 
-/// Whether she is told that a paper is withdrawn: its authors are, who made the entry, and from the bidding members and
-/// clear externals.
+/// Returns whether the reader is told that a paper is withdrawn: its authors are, a user who made the entry, and from
+/// the bidding members and unconflicted externals.
 fn tells_withdrawal(live: &Live, reader: UserNo, maker: UserNo, paper: PaperNo) -> bool
     ensures { let r = reader_in live.now.tables (Some reader) in
         result ≡ (authors r paper || ((members r && members_see_papers r.now)
@@ -97,8 +98,8 @@ fn tells_withdrawal(live: &Live, reader: UserNo, maker: UserNo, paper: PaperNo) 
         || maker == reader
 }
 
-/// What a submission shows her: its paper, and who made it, its title and its abstract where she may
-/// know them.
+/// Returns what a submission shows the reader: its paper, and who made it, its title and its abstract where the reader
+/// may know them.
 pub(crate) fn submission<'a>(
     live: &Live,
     reader: UserNo,
@@ -128,7 +129,7 @@ pub(crate) fn submission<'a>(
     Some(sighting)
 }
 
-/// What a co-author shows her: all of it, or nothing where she isn't told of it.
+/// Returns what a co-author shows the reader: all of it; `None` if the reader isn't told of it.
 pub(crate) fn coauthor<'a>(
     live: &Live,
     reader: UserNo,
@@ -149,8 +150,8 @@ pub(crate) fn coauthor<'a>(
     Some(sighting)
 }
 
-/// What a revision shows her: its paper, its title and its abstract where she may know them, or
-/// nothing where she isn't told of it.
+/// Returns what a revision shows the reader: its paper, its title and its abstract where the reader may know them;
+/// `None` if the reader isn't told of it.
 pub(crate) fn revision<'a>(
     live: &Live,
     reader: UserNo,
@@ -182,7 +183,7 @@ pub(crate) fn revision<'a>(
     Some(sighting)
 }
 
-/// What an upload shows her: all of it, or nothing where she isn't told of it.
+/// Returns what an upload shows the reader: all of it; `None` if the reader isn't told of it.
 pub(crate) fn upload<'a>(
     live: &Live,
     reader: UserNo,
@@ -211,7 +212,7 @@ pub(crate) fn upload<'a>(
     Some(sighting)
 }
 
-/// What the withdrawal of this paper shows her: the paper, or nothing where she isn't told of it.
+/// Returns what the withdrawal of this paper shows the reader: the paper; `None` if the reader isn't told of it.
 pub(crate) fn withdrawal<'a>(
     live: &Live,
     reader: UserNo,

@@ -7,17 +7,20 @@ use crate::series::series;
 use cr_base::Stamped;
 use std::alloc::{AllocError, Global};
 
-/// At which place the last entry of each series stands among some entries, counted from
-/// 1, by the number of the series;
-/// 0 where no entry is of it, as past the end. It takes 232 bytes for each number of a paper up to the greatest one,
-/// so 2.3 MB for 9,999 papers, and up to twice that as it grows.
+/// The place of the last entry of each series among some entries, counted from 1, by the number of the series; 0 if no
+/// entry is of it, as past the end. It takes 232 bytes for each number of a paper up to the greatest one, so 2.3 MB
+/// for 9,999 papers, and up to twice that as it grows.
 #[derive(Drop)]
 pub(crate) struct Places {
     places: Vec<usize>,
 }
 
 impl Places {
-    /// Of no entries; takes no memory.
+    /// Creates the places of no entries.
+    ///
+    /// # Cost
+    ///
+    /// Takes no memory.
     pub(crate) fn new(alloc: Global) -> Places
         ensures { AreLast result.places.items [] }
     {
@@ -26,7 +29,15 @@ impl Places {
         }
     }
 
-    /// Of these entries, by one walk over them; an error only for lack of memory.
+    /// Returns the places of these entries.
+    ///
+    /// # Errors
+    ///
+    /// If memory runs out.
+    ///
+    /// # Cost
+    ///
+    /// One walk over them.
     pub(crate) fn of(alloc: Global, log: &[Stamped]) -> Result<Places, AllocError>
         ensures { IfOk result (λ places. AreLast places.places.items log.now) }
     {
@@ -39,7 +50,11 @@ impl Places {
         Ok(places)
     }
 
-    /// Notes the place of an entry of a series, where it is of one; an error only for lack of memory.
+    /// Notes the place of an entry of a series, if it is of one.
+    ///
+    /// # Errors
+    ///
+    /// If memory runs out.
     pub(crate) fn note(&mut self, series: &Option<u32>, place: usize) -> Result<(), AllocError>
         ensures { OnOk result ((k : ℕ) → slice_index self.new.places.items k
             ≡ (if is_number series.now k then place else slice_index self.old.places.items k)) }
@@ -53,8 +68,8 @@ impl Places {
         Ok(())
     }
 
-    /// Whether the last entry of a series stands at this place, or for 0 whether there is none;
-    /// true where the series is none.
+    /// Returns whether the last entry of a series is at this place, or for 0 whether there is none; true where the
+    /// series is none.
     pub(crate) fn is_last_at(&self, series: &Option<u32>, place: usize) -> bool
         ensures { result ≡ is_last_at self.now.places.items series.now place }
     {
@@ -64,7 +79,7 @@ impl Places {
         }
     }
 
-    /// The place of the last entry of a series, 0 where there is none.
+    /// Returns the place of the last entry of a series, 0 where there is none.
     fn last_of(&self, series: u32) -> usize
         ensures { result ≡ slice_index self.now.places.items series }
     {
@@ -75,7 +90,11 @@ impl Places {
     }
 }
 
-/// Fills the places up with zeros, so that one stands at this number; an error only for lack of memory.
+/// Fills the places up with zeros, so that one is at this number.
+///
+/// # Errors
+///
+/// If memory runs out.
 fn fill(places: &mut Vec<usize>, number: usize) -> Result<(), AllocError>
     requires { number < 4294967296 }
     ensures same { OnOk result ((k : ℕ) → slice_index places.new.items k ≡ slice_index places.old.items k) }

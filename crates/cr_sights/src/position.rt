@@ -1,22 +1,23 @@
 //! Where an entry stands among those of its series.
 use std::marker::Model;
 
-/// Where an entry stands among those of its series: a paper's texts, its content, the forms under one of its
-/// labels, or the decisions on it.
-/// An entry of any other kind is the first and the last of its own.
+/// The place of an entry among those of its series: a paper's texts, its content, the forms under one of its labels,
+/// or the decisions on it. An entry of any other kind is the first and the last of its own.
 ///
-/// Contracts see it as the trigger table asks for it.
+/// # Model
+///
+/// It as the visibility policy reads it.
 #[derive(Clone, Copy)]
 pub struct Position {
-    /// Whether no earlier entry is of its series.
+    /// True if no earlier entry is of its series.
     pub first: bool,
-    /// Whether no later one is.
+    /// True if no later one is.
     pub last: bool,
-    /// Whether the response wasn't opened before it, and no later entry of its series was made before that.
+    /// True if the response wasn't opened before it, and no later entry of its series was made before that.
     pub last_before_response: bool,
-    /// Whether the discussion wasn't opened before it, and no later entry of its series was made before that.
+    /// True if the discussion wasn't opened before it, and no later entry of its series was made before that.
     pub last_before_discussion: bool,
-    /// Whether the discussion was opened before it.
+    /// True if the discussion was opened before it.
     pub from_discussion: bool,
 }
 

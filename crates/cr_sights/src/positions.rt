@@ -10,23 +10,27 @@ use crate::series::series;
 use cr_base::{Entry, Phase, Stamped};
 use std::alloc::{AllocError, Global};
 
-/// What tells of each entry of a history where it stands, as a walk comes to it: the last places of series among the
-/// entries that were passed, in the whole history, among those that stand before the response was opened, and among
-/// those that stand before the discussion was.
+/// The place of each entry of a history in its series, as a walk comes to it: the last places of series among the
+/// entries that were passed, in the whole history, among those before the response was opened, and among those before
+/// the discussion was.
 #[derive(Drop)]
 pub(crate) struct Positions {
     passed: Places,
     all: Places,
     before_response: Places,
     before_discussion: Places,
-    /// How many entries stand before that which opens the response.
+    /// How many entries precede the one that opens the response.
     response_at: usize,
-    /// How many entries stand before that which opens the discussion.
+    /// How many entries precede the one that opens the discussion.
     discussion_at: usize,
 }
 
 impl Positions {
-    /// At the beginning of a history; an error only for lack of memory.
+    /// Returns the positions at the beginning of a history.
+    ///
+    /// # Errors
+    ///
+    /// If memory runs out.
     pub(crate) fn of(alloc: Global, log: &[Stamped]) -> Result<Positions, AllocError>
         ensures { IfOk result (λ positions. AreNoted positions log.now 0) }
     {
@@ -45,7 +49,11 @@ impl Positions {
         })
     }
 
-    /// Where the entry at this place stands, to which the walk has come; an error only for lack of memory.
+    /// Returns the position of the entry at this place, to which the walk has come.
+    ///
+    /// # Errors
+    ///
+    /// If memory runs out.
     pub(crate) fn pass(&mut self, log: &[Stamped], at: usize) -> Result<Position, AllocError>
         requires noted { AreNoted self.old log.now at }
         requires within { at < length log.now }
@@ -68,14 +76,14 @@ impl Positions {
     }
 }
 
-/// Whether an entry stands before a phase is opened, as the last of its series there.
+/// Returns whether an entry precedes the opening of a phase, as the last of its series there.
 fn is_last_before(from_phase: bool, last_before: bool) -> bool
     ensures { result ≡ (not from_phase && last_before) }
 {
     !from_phase && last_before
 }
 
-/// Whether an entry opens the phase told.
+/// Returns whether an entry opens the phase told.
 fn opens(entry: &Entry, told: Phase) -> bool
     ensures { result ≡ opens told entry.now }
 {
@@ -85,7 +93,7 @@ fn opens(entry: &Entry, told: Phase) -> bool
     }
 }
 
-/// How many entries stand before the first that opens the phase; all where none does.
+/// Returns how many entries precede the first that opens the phase; all if none does.
 fn opening(log: &[Stamped], phase: Phase) -> usize
     ensures before { result ≡ length (until (λ s. opens phase s.entry) log.now) }
     ensures within { result ≤ length log.now }

@@ -11,7 +11,7 @@ ghost use Rattle.cr_sights.specs.Readers.{reader_in};
 use crate::sighting::{Sighting, of_stamp};
 use cr_base::{Entry, EntryKind, Stamped, UserNo};
 
-/// What a registration shows her: the user and her name, and the digest where it is her own.
+/// Returns what a registration shows the reader: the user and their name, and the digest where it is their own.
 pub(crate) fn registration<'a>(reader: UserNo, stamped: &'a Stamped) -> Option<Sighting<'a>>
     requires { kind_of stamped.now.entry ≡ kinds.Registered }
     ensures { (t : Tables) (at : Around) → listed result ≡ sight_at (reader_in t (Some reader)) at stamped.now }
@@ -27,7 +27,7 @@ pub(crate) fn registration<'a>(reader: UserNo, stamped: &'a Stamped) -> Option<S
     Some(sighting)
 }
 
-/// What a naming shows her: all of it.
+/// Returns what a naming shows the reader: all of it.
 pub(crate) fn naming<'a>(reader: UserNo, stamped: &'a Stamped) -> Option<Sighting<'a>>
     requires { kind_of stamped.now.entry ≡ kinds.Named }
     ensures { (t : Tables) (at : Around) → listed result ≡ sight_at (reader_in t (Some reader)) at stamped.now }
@@ -41,7 +41,7 @@ pub(crate) fn naming<'a>(reader: UserNo, stamped: &'a Stamped) -> Option<Sightin
     Some(sighting)
 }
 
-/// What the end of a role shows her: all of it.
+/// Returns what the end of a role shows the reader: all of it.
 pub(crate) fn dismissal<'a>(reader: UserNo, stamped: &'a Stamped) -> Option<Sighting<'a>>
     requires { kind_of stamped.now.entry ≡ kinds.Dismissed }
     ensures { (t : Tables) (at : Around) → listed result ≡ sight_at (reader_in t (Some reader)) at stamped.now }
@@ -54,7 +54,7 @@ pub(crate) fn dismissal<'a>(reader: UserNo, stamped: &'a Stamped) -> Option<Sigh
     Some(sighting)
 }
 
-/// What another phase shows her: all of it.
+/// Returns what another phase shows the reader: all of it.
 pub(crate) fn phase_set<'a>(reader: UserNo, stamped: &'a Stamped) -> Option<Sighting<'a>>
     requires { kind_of stamped.now.entry ≡ kinds.PhaseSet }
     ensures { (t : Tables) (at : Around) → listed result ≡ sight_at (reader_in t (Some reader)) at stamped.now }
@@ -67,7 +67,7 @@ pub(crate) fn phase_set<'a>(reader: UserNo, stamped: &'a Stamped) -> Option<Sigh
     Some(sighting)
 }
 
-/// What another mode shows her: all of it.
+/// Returns what another mode shows the reader: all of it.
 pub(crate) fn mode_set<'a>(reader: UserNo, stamped: &'a Stamped) -> Option<Sighting<'a>>
     requires { kind_of stamped.now.entry ≡ kinds.ModeSet }
     ensures { (t : Tables) (at : Around) → listed result ≡ sight_at (reader_in t (Some reader)) at stamped.now }
@@ -80,7 +80,7 @@ pub(crate) fn mode_set<'a>(reader: UserNo, stamped: &'a Stamped) -> Option<Sight
     Some(sighting)
 }
 
-/// What a deadline that is set, or taken away, shows her: all of it.
+/// Returns what a deadline that is set, or taken away, shows the reader: all of it.
 pub(crate) fn deadline_set<'a>(reader: UserNo, stamped: &'a Stamped) -> Option<Sighting<'a>>
     requires { kind_of stamped.now.entry ≡ kinds.DeadlineSet }
     ensures { (t : Tables) (at : Around) → listed result ≡ sight_at (reader_in t (Some reader)) at stamped.now }

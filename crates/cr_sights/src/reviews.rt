@@ -15,59 +15,59 @@ use crate::sighting::{Sighting, of_stamp};
 use cr_base::{Entry, EntryKind, Stamped, Standing, UserNo};
 use cr_view::Live;
 
-/// Whether she is told that there is a form: of the first under a label clear chairs are.
+/// Returns whether the reader is told that there is a form: of the first under a label unconflicted chairs are.
 fn is_done_for(by: &Standing, position: Position) -> bool
     ensures { result ≡ is_done_for position by.now }
 {
     position.first && by.is_clear_chair()
 }
 
-/// Whether she reads a paper's reviews: members in no conflict with it do, once members read reviews.
+/// Returns whether the reader reads a paper's reviews: unconflicted members do, once members read reviews.
 fn reads_reviews(by: &Standing) -> bool
     ensures { result ≡ (is_clear_member by.now && members_read_reviews by.now.phase) }
 {
     by.is_clear_member() && by.phase.members_read_reviews()
 }
 
-/// Whether she discusses a form: who reads the paper's reviews does, the last under a label before the discussion and
-/// all later ones.
+/// Returns whether the reader discusses a form: a user who reads the paper's reviews does, the last under a label
+/// before the discussion and all later ones.
 fn is_discussed_by(by: &Standing, position: Position) -> bool
     ensures { result ≡ is_discussed_by position by.now }
 {
     (position.last_before_discussion || position.from_discussion) && reads_reviews(by)
 }
 
-/// Whether a form is for her as an author: once authors read reviews the last under a label is.
+/// Returns whether a form is for the reader as an author: once authors read reviews the last under a label is.
 fn is_for_author(by: &Standing, position: Position) -> bool
     ensures { result ≡ is_for_author position by.now }
 {
     position.last && by.author && by.phase.authors_read_reviews()
 }
 
-/// Whether a form is for her as an author to respond to: from the response on, where it was opened, the last under a
-/// label before it is.
+/// Returns whether a form is for the reader as an author to respond to: from the response on, if it was opened, the
+/// last under a label before it is.
 fn is_early_for(by: &Standing, position: Position, opened: bool) -> bool
     ensures { result ≡ is_early_for position opened by.now }
 {
     position.last_before_response && opened && by.author && by.phase.authors_read_early_reviews()
 }
 
-/// Whether a form is for her as an author, to respond to or in the end.
+/// Returns whether a form is for the reader as an author, to respond to or in the end.
 fn is_told_author(by: &Standing, position: Position, opened: bool) -> bool
     ensures { result ≡ (is_early_for position opened by.now || is_for_author position by.now) }
 {
     is_early_for(by, position, opened) || is_for_author(by, position)
 }
 
-/// Whether she is shown all of a form: who discusses it is, and who wrote it.
+/// Returns whether the reader is shown all of a form: a user who discusses it is, and the user who wrote it.
 fn shows_all(by: &Standing, position: Position, mine: bool) -> bool
     ensures { result ≡ (is_discussed_by position by.now || mine) }
 {
     is_discussed_by(by, position) || mine
 }
 
-/// Whether she is shown the grades of a form and its text to the authors: who discusses it is, the paper's authors
-/// where it is for them, and who wrote it.
+/// Returns whether the reader is shown the grades of a form and its text to the authors: a user who discusses it is,
+/// the paper's authors where it is for them, and the user who wrote it.
 fn shows_grades(by: &Standing, position: Position, opened: bool, mine: bool) -> bool
     ensures { result ≡ (is_discussed_by position by.now
         || (is_early_for position opened by.now || (is_for_author position by.now || mine))) }
@@ -75,7 +75,7 @@ fn shows_grades(by: &Standing, position: Position, opened: bool, mine: bool) -> 
     is_discussed_by(by, position) || is_told_author(by, position, opened) || mine
 }
 
-/// Whether she is told of a form: who is told that there is one, or shown its grades.
+/// Returns whether the reader is told of a form: a user who is told that there is one, or shown its grades.
 fn tells_review(by: &Standing, position: Position, opened: bool, mine: bool) -> bool
     ensures { result ≡ (is_done_for position by.now
         || (is_discussed_by position by.now
@@ -84,8 +84,8 @@ fn tells_review(by: &Standing, position: Position, opened: bool, mine: bool) -> 
     is_done_for(by, position) || shows_grades(by, position, opened, mine)
 }
 
-/// What a form shows her: its paper and its label, and of the other parts those that she may know; or
-/// nothing where she isn't told of it.
+/// Returns what a form shows the reader: its paper and its label, and of the other parts those that the reader may
+/// know; or nothing where the reader isn't told of it.
 pub(crate) fn review<'a>(
     live: &Live,
     reader: UserNo,

@@ -15,33 +15,33 @@ use crate::sighting::{Sighting, of_stamp};
 use cr_base::{Entry, EntryKind, Kind, Ordinal, PaperNo, Stamped, Standing, UserNo};
 use cr_view::Live;
 
-/// Which parts beside the paper she is shown who is told of an assignment, or of its end.
+/// Which parts beside the paper the reader is shown who is told of an assignment, or of its end.
 #[derive(Clone, Copy)]
 struct SeatParts {
-    /// Who has the seat.
+    /// The user who has the seat.
     user: bool,
-    /// What she is to the paper.
+    /// The kind of assignment.
     kind: bool,
-    /// The ordinal of her label.
+    /// The ordinal of their label.
     ordinal: bool,
 }
 
-/// Whether she is a member in no conflict with the paper, and members see who reviews it.
+/// Returns whether the reader is a member in no conflict with the paper, and members see who reviews it.
 fn knows_reviewers(by: &Standing) -> bool
     ensures { result ≡ (is_clear_member by.now && members_see_reviewers by.now.phase) }
 {
     by.is_clear_member() && by.phase.members_see_reviewers()
 }
 
-/// Whether she is an author who is shown her reviewers.
+/// Returns whether the reader is an author who is shown their reviewers.
 fn sees_reviewers(by: &Standing) -> bool
     ensures { result ≡ (by.now.author && (is_overt by.now.mode && authors_see_reviewers by.now.phase)) }
 {
     by.author && by.mode.is_overt() && by.phase.authors_see_reviewers()
 }
 
-/// Whether she is shown who has a seat: who is named or made the entry, clear chairs, clear members from the
-/// discussion unless the mode is anonymous, and authors who are shown their reviewers.
+/// Returns whether the reader is shown who has a seat: a user who is named or made the entry, unconflicted chairs,
+/// unconflicted members from the discussion unless the mode is anonymous, and authors who are shown their reviewers.
 fn shows_user(by: &Standing, named: bool, made: bool) -> bool
     ensures { result ≡ (named || (is_clear_chair by.now
         || ((is_clear_member by.now && (not (is_anonymous by.now.mode) && members_see_reviewers by.now.phase))
@@ -51,8 +51,8 @@ fn shows_user(by: &Standing, named: bool, made: bool) -> bool
     named || knows || sees_reviewers(by) || made
 }
 
-/// Whether she is shown what a seat is: who is named or made the entry, clear chairs, and
-/// clear members from the discussion.
+/// Returns whether the reader is shown what a seat is: a user who is named or made the entry, unconflicted chairs, and
+/// unconflicted members from the discussion.
 fn shows_kind(by: &Standing, named: bool, made: bool) -> bool
     ensures { result ≡ (named || (is_clear_chair by.now
         || ((is_clear_member by.now && members_see_reviewers by.now.phase) || made))) }
@@ -60,7 +60,7 @@ fn shows_kind(by: &Standing, named: bool, made: bool) -> bool
     named || by.is_clear_chair() || knows_reviewers(by) || made
 }
 
-/// Whether she is told of a seat, and shown its ordinal: who is shown what it is, and authors
+/// Returns whether the reader is told of a seat, and shown its ordinal: a user who is shown what it is, and authors
 /// who are shown their reviewers.
 fn shows_ordinal(by: &Standing, named: bool, made: bool) -> bool
     ensures { result ≡ (named || (is_clear_chair by.now
@@ -70,7 +70,7 @@ fn shows_ordinal(by: &Standing, named: bool, made: bool) -> bool
     shows_kind(by, named, made) || sees_reviewers(by)
 }
 
-/// Which parts she is shown, and None where she isn't told of it.
+/// Returns which parts the reader is shown, and `None` if the reader isn't told of it.
 fn seat_parts(
     live: &Live,
     reader: UserNo,
@@ -96,7 +96,7 @@ fn seat_parts(
     })
 }
 
-/// What an assignment shows her: what she may know of it, or nothing where she isn't told of it.
+/// Returns what an assignment shows the reader: what the reader may know of it; `None` if the reader isn't told of it.
 pub(crate) fn assignment<'a>(
     live: &Live,
     reader: UserNo,
@@ -123,7 +123,8 @@ pub(crate) fn assignment<'a>(
     Some(sighting)
 }
 
-/// What the end of an assignment shows her, the same way.
+/// Returns what the end of an assignment shows the reader: what the reader may know of it; `None` if the reader isn't
+/// told of it.
 pub(crate) fn unassignment<'a>(
     live: &Live,
     reader: UserNo,

@@ -11,8 +11,8 @@ use cr_base::{Entry, PaperNo};
 /// content, and the decisions on it.
 const SERIES_PER_PAPER: u32 = 29;
 
-/// The number of the series of a paper at an index: 0 for its texts, 27 for its content, 28 for the decisions on it,
-/// and between the first two the ordinal of a label.
+/// Returns the number of the series of a paper at an index: 0 for its texts, 27 for its content, 28 for the decisions
+/// on it, and between the first two the ordinal of a label.
 fn number(paper: PaperNo, index: u32) -> u32
     requires { index < 29 }
     ensures { result ≡ paper * 29 + index }
@@ -20,8 +20,8 @@ fn number(paper: PaperNo, index: u32) -> u32
     paper.number() as u32 * SERIES_PER_PAPER + index
 }
 
-/// The number of the series that an entry is of: its paper's texts, its content, the forms under a label, or the
-/// decisions on it. None where no later entry can give the same again.
+/// Returns the number of the series that an entry is of: its paper's texts, its content, the forms under a label, or
+/// the decisions on it. `None` if no later entry can give the same again.
 pub(crate) fn series(entry: &Entry) -> Option<u32>
     ensures same { (k : ℕ) → is_of k entry.now ≡ is_number result k }
     ensures alike { (H : History) → none_alike entry.now H ≡ none_of result H }

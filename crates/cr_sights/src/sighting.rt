@@ -8,15 +8,17 @@ use cr_base::{
 };
 use std::marker::Model;
 
-/// What one entry shows a reader: its kind and its paper, and of its other parts those that she is shown, lent from
-/// the entry.
+/// What one entry shows a reader: its kind and its paper, and of its other parts those that the reader is shown, lent
+/// from the entry.
 ///
-/// Contracts see it as the definition of views has it.
+/// # Model
+///
+/// It as the definition of views has it.
 #[derive(Drop)]
 pub struct Sighting<'a> {
     /// The kind of the entry.
     pub kind: EntryKind,
-    /// Whether it is the reader's own: she made it.
+    /// True if it is the reader's own: the reader made it.
     pub mine: bool,
     /// The paper of an entry that has one.
     pub paper: Option<PaperNo>,
@@ -33,7 +35,7 @@ pub struct Sighting<'a> {
     pub phase: Option<Phase>,
     /// The mode that was set.
     pub mode: Option<Mode>,
-    /// Who made a submission, a bid or a comment.
+    /// The actor of a submission, a bid or a comment.
     pub by: Option<UserNo>,
     /// The title of a submission or a revision.
     pub title: Option<&'a Text>,
@@ -43,14 +45,14 @@ pub struct Sighting<'a> {
     pub version: Option<u64>,
     /// The content that was uploaded.
     pub content: Option<&'a Blob>,
-    /// Whether a conflict or a tag was turned on, or off.
+    /// True if a conflict or a tag was turned on, or off.
     pub on: Option<bool>,
     /// How much a member wants to review the paper.
     pub value: Option<Bid>,
     /// What the user who was assigned is to the paper.
     pub review_kind: Option<Kind>,
-    /// The ordinal of the label under which she reviews it, or did; that of a form's label; and of a comment that of
-    /// its writer's, 0 where she didn't review the paper.
+    /// The ordinal of the label under which the user reviews it, or did; that of a form's label; and of a comment that
+    /// of its writer's, 0 if the writer didn't review the paper.
     pub ordinal: Option<u64>,
     /// How good a form says that the paper is.
     pub score: Option<Grade>,
@@ -60,7 +62,7 @@ pub struct Sighting<'a> {
     pub to_authors: Option<&'a Text>,
     /// What it says to the committee.
     pub to_pc: Option<&'a Text>,
-    /// That there is a form: true where it is told.
+    /// That there is a form: true if it is told.
     pub done: Option<bool>,
     /// The number of a comment.
     pub n: Option<u64>,
@@ -70,15 +72,15 @@ pub struct Sighting<'a> {
     pub tag: Option<&'a Tag>,
     /// What was decided.
     pub decision: Option<Decision>,
-    /// That the decision is what became of the reader's paper: true where it is told.
+    /// That the decision is what became of the reader's paper: true if it is told.
     pub outcome: Option<bool>,
-    /// That the paper is accepted: true where it is told.
+    /// That the paper is accepted: true if it is told.
     pub accepted: Option<bool>,
-    /// The moment of its command's request, where the reader made it.
+    /// The moment of its command's request, if the reader made it.
     pub at: Option<Moment>,
     /// The deadline that a phase has from then on, or that it has none any more.
     pub until: Option<Option<Deadline>>,
-    /// The key of its command, or that it has none, where the reader made it.
+    /// The key of its command, or that it has none, if the reader made it.
     pub key: Option<Option<RetryKey>>,
 }
 
@@ -124,8 +126,8 @@ impl<'a> Model for Sighting<'a> {
     } };
 }
 
-/// What an entry of this kind shows her by its stamp alone: that it is her own, where she made it, and then when, and
-/// by which number.
+/// Returns what an entry of this kind shows the reader by its metadata only: that it is their own, if the reader made
+/// it, and then when, and by which number.
 pub(crate) fn of_stamp<'a>(kind: EntryKind, reader: UserNo, stamp: &Stamp) -> Sighting<'a>
     ensures { result ≡ stamp_shown reader stamp.now kind }
 {

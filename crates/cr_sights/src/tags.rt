@@ -14,16 +14,15 @@ use crate::sighting::{Sighting, of_stamp};
 use cr_base::{Entry, EntryKind, PaperNo, Stamped, Tag, UserNo};
 use cr_view::Live;
 
-/// Whether a tag is for all members.
+/// Returns whether a tag is for all members.
 fn is_for_all(tag: &Tag) -> bool
     ensures { result ≡ is_tag_for_all tag.now }
 {
     !tag.is_private() && !tag.is_for_chairs()
 }
 
-/// Whether she is told of a tag: from the bidding clear members are of one for all, and
-/// clear chairs of one for chairs;
-/// and who set it.
+/// Returns whether the reader is told of a tag: from the bidding unconflicted members are of one for all, and
+/// unconflicted chairs of one for chairs; and the user who set it.
 fn tells_tag(live: &Live, reader: UserNo, maker: UserNo, paper: PaperNo, tag: &Tag) -> bool
     ensures { let r = reader_in live.now.tables (Some reader) in
         result ≡ ((is_tag_for_all tag.now && is_clear_member (standing_to r paper) && committee_sees_tags r.now)
@@ -36,7 +35,7 @@ fn tells_tag(live: &Live, reader: UserNo, maker: UserNo, paper: PaperNo, tag: &T
         || maker == reader
 }
 
-/// What a tag shows her: all of it, or nothing where she isn't told of it.
+/// Returns what a tag shows the reader: all of it; `None` if the reader isn't told of it.
 pub(crate) fn tagging<'a>(live: &Live, reader: UserNo, stamped: &'a Stamped) -> Option<Sighting<'a>>
     requires { kind_of stamped.now.entry ≡ kinds.Tagged }
     ensures { (at : Around) → listed result ≡ sight_at (reader_in live.now.tables (Some reader)) at stamped.now }

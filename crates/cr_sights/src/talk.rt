@@ -15,21 +15,23 @@ use crate::sighting::{Sighting, of_stamp};
 use cr_base::{Entry, EntryKind, Ordinal, PaperNo, Stamped, Standing, Text, UserNo};
 use cr_view::Live;
 
-/// Whether she reads the comments on a paper: members in no conflict with it do, once members read comments.
+/// Returns whether the reader reads the comments on a paper: unconflicted members do, once members read comments.
 fn reads_comments(by: &Standing) -> bool
     ensures { result ≡ (is_clear_member by.now && members_read_comments by.now.phase) }
 {
     by.is_clear_member() && by.phase.members_read_comments()
 }
 
-/// Whether she is named who wrote what she discusses: clear chairs are, and others unless the mode is anonymous.
+/// Returns whether the reader is named who wrote what the reader discusses: unconflicted chairs are, and others unless
+/// the mode is anonymous.
 fn names_writers(by: &Standing) -> bool
     ensures { result ≡ (is_clear_chair by.now || not (is_anonymous by.now.mode)) }
 {
     by.is_clear_chair() || !by.mode.is_anonymous()
 }
 
-/// Whether she is told of a comment: who reads the comments on the paper is, and who wrote it.
+/// Returns whether the reader is told of a comment: a user who reads the comments on the paper is, and the user who
+/// wrote it.
 fn tells_comment(live: &Live, reader: UserNo, maker: UserNo, paper: PaperNo) -> bool
     ensures { let r = reader_in live.now.tables (Some reader) in
         result ≡ (may_read r paper || ((may_read r paper && names_writers r paper)
@@ -39,7 +41,7 @@ fn tells_comment(live: &Live, reader: UserNo, maker: UserNo, paper: PaperNo) -> 
     reads_comments(&by) || maker == reader
 }
 
-/// Whether she is shown who wrote a comment.
+/// Returns whether the reader is shown who wrote a comment.
 fn shows_writer(live: &Live, reader: UserNo, paper: PaperNo) -> bool
     ensures { let r = reader_in live.now.tables (Some reader) in
         result ≡ (may_read r paper && names_writers r paper) }
@@ -48,7 +50,8 @@ fn shows_writer(live: &Live, reader: UserNo, paper: PaperNo) -> bool
     reads_comments(&by) && names_writers(&by)
 }
 
-/// Whether she is shown its writer's label: who reads it and isn't shown who wrote it is, and the writer.
+/// Returns whether the reader is shown its writer's label: a user who reads it and isn't shown who wrote it is, and
+/// the writer.
 fn shows_label(live: &Live, reader: UserNo, maker: UserNo, paper: PaperNo) -> bool
     ensures { let r = reader_in live.now.tables (Some reader) in
         result ≡ ((may_read r paper && not (names_writers r paper)) || user_named r maker) }
@@ -57,7 +60,7 @@ fn shows_label(live: &Live, reader: UserNo, maker: UserNo, paper: PaperNo) -> bo
     reads_comments(&by) && !names_writers(&by) || maker == reader
 }
 
-/// The number of a label's ordinal, and 0 where there is none.
+/// Returns the number of a label's ordinal, and 0 where there is none.
 fn label_number(ordinal: &Option<Ordinal>) -> u64
     ensures { result ≡ unwrap_or ordinal.now 0 }
 {
@@ -67,8 +70,8 @@ fn label_number(ordinal: &Option<Ordinal>) -> u64
     }
 }
 
-/// What a comment shows her: its paper, its number and its text, and who wrote it, or under which label, where she may
-/// know that; or nothing where she isn't told of it.
+/// Returns what a comment shows the reader: its paper, its number and its text, and who wrote it, or under which
+/// label, if the reader may know that; or nothing where the reader isn't told of it.
 pub(crate) fn comment<'a>(live: &Live, reader: UserNo, stamped: &'a Stamped) -> Option<Sighting<'a>>
     requires { kind_of stamped.now.entry ≡ kinds.Commented }
     ensures { (at : Around) → listed result ≡ sight_at (reader_in live.now.tables (Some reader)) at stamped.now }
@@ -96,8 +99,8 @@ pub(crate) fn comment<'a>(live: &Live, reader: UserNo, stamped: &'a Stamped) -> 
     Some(sighting)
 }
 
-/// Whether she is told what a paper's authors responded: its authors are, clear members once members read responses,
-/// and who made it.
+/// Returns whether the reader is told what a paper's authors responded: its authors are, unconflicted members once
+/// members read responses, and the user who made it.
 fn tells_response(live: &Live, reader: UserNo, maker: UserNo, paper: PaperNo) -> bool
     ensures { let r = reader_in live.now.tables (Some reader) in
         result ≡ (authors r paper || (reads_responses r paper || user_named r maker)) }
@@ -106,8 +109,8 @@ fn tells_response(live: &Live, reader: UserNo, maker: UserNo, paper: PaperNo) ->
     by.author || by.is_clear_member() && by.phase.members_read_responses() || maker == reader
 }
 
-/// What a response shows her: its paper and its text, or nothing where she isn't told of it. Who of its authors wrote
-/// it is shown to nobody.
+/// Returns what a response shows the reader: its paper and its text; `None` if the reader isn't told of it. Who of its
+/// authors wrote it is not shown to any user.
 pub(crate) fn response<'a>(
     live: &Live,
     reader: UserNo,

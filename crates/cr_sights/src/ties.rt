@@ -13,22 +13,22 @@ use crate::sighting::{Sighting, of_stamp};
 use cr_base::{Bid, Entry, EntryKind, PaperNo, Stamped, Standing, UserNo};
 use cr_view::Live;
 
-/// Whether she is shown all of a paper's conflicts: chairs in no conflict with it are, once chairs see them.
+/// Returns whether the reader is shown all of a paper's conflicts: unconflicted chairs are, once chairs see them.
 fn sees_conflicts(by: &Standing) -> bool
     ensures { result ≡ (is_clear_chair by.now && chairs_see_conflicts by.now.phase) }
 {
     by.is_clear_chair() && by.phase.chairs_see_conflicts()
 }
 
-/// Whether she is shown all bids for a paper, the same way.
+/// Returns whether the reader is shown all bids for a paper: unconflicted chairs are, once chairs see them.
 fn sees_bids(by: &Standing) -> bool
     ensures { result ≡ (is_clear_chair by.now && chairs_see_bids by.now.phase) }
 {
     by.is_clear_chair() && by.phase.chairs_see_bids()
 }
 
-/// Whether she is told that a user is in conflict with a paper, or no longer: who made the entry is, the user
-/// herself, an author where an author made it, and whoever is shown all of the paper's conflicts.
+/// Returns whether the reader is told that a user is in conflict with a paper, or no longer: a user who made the entry
+/// is, the user themselves, an author where an author made it, and a user who is shown all of the paper's conflicts.
 fn tells_conflict(live: &Live, reader: UserNo, maker: UserNo, user: UserNo, paper: PaperNo) -> bool
     ensures { let r = reader_in live.now.tables (Some reader) in
         result ≡ (user_named r user || ((r.wrote maker paper && authors r paper)
@@ -39,7 +39,8 @@ fn tells_conflict(live: &Live, reader: UserNo, maker: UserNo, user: UserNo, pape
     user == reader || wrote && by.author || sees_conflicts(&by) || maker == reader
 }
 
-/// Whether she is told of a bid on a paper: who made it is, and whoever is shown all of the paper's bids.
+/// Returns whether the reader is told of a bid on a paper: a user who made it is, and a user who is shown all of the
+/// paper's bids.
 fn tells_bid(live: &Live, reader: UserNo, maker: UserNo, paper: PaperNo) -> bool
     ensures { let r = reader_in live.now.tables (Some reader) in
         result ≡ ((is_clear_chair (standing_to r paper) && chairs_see_bids r.now) || user_named r maker) }
@@ -48,7 +49,7 @@ fn tells_bid(live: &Live, reader: UserNo, maker: UserNo, paper: PaperNo) -> bool
     sees_bids(&by) || maker == reader
 }
 
-/// What a conflict shows her: all of it, or nothing where she isn't told of it.
+/// Returns what a conflict shows the reader: all of it; `None` if the reader isn't told of it.
 pub(crate) fn conflict<'a>(
     live: &Live,
     reader: UserNo,
@@ -70,8 +71,8 @@ pub(crate) fn conflict<'a>(
     Some(sighting)
 }
 
-/// What a bid shows her: how much is wanted, and by whom where she is shown all bids; or nothing where
-/// she isn't told of it.
+/// Returns what a bid shows the reader: its value, and whose it is if the reader is shown all bids; `None` if the
+/// reader isn't told of it.
 pub(crate) fn bid<'a>(live: &Live, reader: UserNo, stamped: &'a Stamped) -> Option<Sighting<'a>>
     requires { kind_of stamped.now.entry ≡ kinds.Bid }
     ensures { (at : Around) → listed result ≡ sight_at (reader_in live.now.tables (Some reader)) at stamped.now }

@@ -25,13 +25,18 @@ pub enum ViewError {
     OutOfMemory,
 }
 
-/// Writes what the entries of a history show a user, one line a sighting, by the tables of the whole history. Behind
-/// an error some part of the lines was written. `WriteFault` comes only where the sink's count of faults rose, or
-/// stands at its last value; else the count is as it was, and `OutOfMemory` comes for lack of memory alone.
+/// Writes what the entries of a history show a user, one line an entry, by the tables of the whole history.
 ///
-/// Costs at most four walks over the history, with a few look-ups and one write an entry, a buffer for the longest
-/// line, where of a content its length alone is written, and what tells where entries stand: 696 bytes for each number
-/// of a paper up to the greatest one, so 7 MB for 9,999 papers, and up to twice that as it grows.
+/// # Errors
+///
+/// After an error some part of the lines was written. `WriteFault`: the sink's fault counter rose, or is at its
+/// maximum; otherwise it is unchanged. `OutOfMemory`: memory ran out.
+///
+/// # Cost
+///
+/// At most four walks over the history, with a few look-ups and one write an entry, a buffer for the longest line,
+/// where a content is only its length, and the places of entries: 696 bytes for each number of a paper up to the
+/// greatest one, so 7 MB for 9,999 papers, and up to twice that as it grows.
 pub fn write_view<O: Sink>(
     alloc: Global,
     live: &Live,
@@ -64,8 +69,15 @@ pub fn write_view<O: Sink>(
     Ok(())
 }
 
-/// How many sightings a user has of a history, by its tables: the lines that `write_view` writes; an error only for
-/// lack of memory. Costs the same walks.
+/// Returns how many lines `write_view` writes of a history for a user, by its tables.
+///
+/// # Errors
+///
+/// If memory runs out.
+///
+/// # Cost
+///
+/// The walks of `write_view`.
 pub fn view_len(
     alloc: Global,
     live: &Live,
@@ -85,7 +97,7 @@ pub fn view_len(
     Ok(count)
 }
 
-/// 1 where there is a sighting, else 0.
+/// Returns 1 if the entry shows something, else 0.
 fn number_of(sighting: &Option<Sighting>) -> u64
     ensures { result ≡ length (listed sighting.now) }
 {

@@ -1,4 +1,9 @@
-//! The stores of the program: a journal where the path ends in `.cj`, and else a file of SQLite's format.
+//! The program's shelf: a journal if the path ends in `.cj`, otherwise a SQLite file.
+//!
+//! # Proved
+//!
+//! - It is `EitherShelf` of cr_ports over journals in files and SQLite files, and begins with no fault counted:
+//!   `file_shelf` (`journals`, `refused`, `databases`).
 #![tactic(auto)]
 
 ghost use Rattle.std.specs.Prelude.{◌≡◌};

@@ -1,4 +1,10 @@
-//! The table of tags: which are on at which papers, and whose the private ones are, found by the paper's number.
+//! The table of tags: which are on at which papers, and whose the private ones are.
+//!
+//! # Proved
+//!
+//! With [what every table proves](../../cr_rooms/src/lib.rt):
+//!
+//! - A paper's tags for a user, by their bytes, are exact, unless memory runs out: `Tags::tags_for`.
 #![tactic(auto)]
 
 mod order;

@@ -5,7 +5,7 @@ ghost use Rattle.cr_base.specs.Tags.{owner_number, tag_order};
 use cr_base::{SetTag, UserNo};
 use std::cmp::Ordering;
 
-/// An owner's number, and 0 where nobody owns the tag.
+/// Returns an owner's number, and 0 if the tag has no owner.
 fn owner_number(owner: &Option<UserNo>) -> u64
     ensures { result ≡ owner_number owner.now }
 {
@@ -15,7 +15,7 @@ fn owner_number(owner: &Option<UserNo>) -> u64
     }
 }
 
-/// How the first tag stands to the second: by their bytes, and the same tags by their owners' numbers.
+/// Compares two tags by their bytes, and equal ones by their owners' numbers.
 pub(crate) fn compare(first: &SetTag, second: &SetTag) -> Ordering
     ensures { result ≡ tag_order first.now second.now }
 {

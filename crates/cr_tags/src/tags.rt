@@ -20,10 +20,12 @@ use std::alloc::{AllocError, Global};
 use std::marker::Model;
 use std::sync::ledger::Ledger;
 
-/// The tags that are on: each paper's own together, by their bytes; a private one as often as users have set it,
-/// by their numbers.
+/// The tags that are on: each paper's own together, by their bytes; a private one as often as users have set it, by
+/// their numbers.
 ///
-/// Contracts see the tags paper by paper, and for how many more at each paper there is room.
+/// # Model
+///
+/// The tags paper by paper, and for how many more at each paper there is room.
 #[derive(Drop)]
 pub struct Tags {
     alloc: Global,
@@ -41,14 +43,14 @@ impl Model for Tags {
     ghost invariant = { λ t. IsSortedState t.tags.files };
 }
 
-/// Who owns a tag that this user sets: she does, where it is private, and else nobody.
+/// Returns who owns a tag that this user sets: the user, if it is private, and else none.
 fn owner_of(tag: &Tag, maker: UserNo) -> Option<UserNo>
     ensures { result ≡ tag_owner tag.now maker }
 {
     if tag.is_private() { Some(maker) } else { None }
 }
 
-/// Whether the tag is for this user: everyone's; her own private one; or a chair's, where she is one.
+/// Returns whether the tag is for this user: everyone's; their own private one; or a chair's, if the user is one.
 fn is_for(set: &SetTag, user: UserNo, chair: bool) -> bool
     ensures { result ≡ is_tag_for (Some user) chair set.now }
 {
@@ -64,8 +66,15 @@ fn is_for(set: &SetTag, user: UserNo, chair: bool) -> bool
     }
 }
 
-/// Those of the tags that are for this user, in the same order. A walk over them; an error only for lack of
-/// memory.
+/// Returns those of the tags that are for this user, in their order.
+///
+/// # Errors
+///
+/// If memory runs out.
+///
+/// # Cost
+///
+/// A walk over them.
 fn those_for(
     alloc: Global,
     sets: &[SetTag],
@@ -80,14 +89,18 @@ fn those_for(
         .collect(alloc)
 }
 
-/// Whether it is this tag, and is for this user.
+/// Returns whether it is this tag, and is for this user.
 fn is_it_for(set: &SetTag, tag: &Tag, user: UserNo, chair: bool) -> bool
     ensures { result ≡ (is_tag_for (Some user) chair set.now && bytes_eq tag.now set.now.tag) }
 {
     is_for(set, user, chair) && tag.as_slice() == set.tag.as_slice()
 }
 
-/// Whether this tag is one of the tags, and is for this user. A walk over them up to it.
+/// Returns whether this tag is one of the tags, and is for this user.
+///
+/// # Cost
+///
+/// A walk over them up to it.
 fn has_it_for(sets: &[SetTag], tag: &Tag, user: UserNo, chair: bool) -> bool
     ensures { result ≡ list_any (λ set. is_tag_for (Some user) chair set && bytes_eq tag.now set.tag) sets.now }
 {
@@ -96,7 +109,11 @@ fn has_it_for(sets: &[SetTag], tag: &Tag, user: UserNo, chair: bool) -> bool
 
 /// What is read.
 impl Tags {
-    /// No tags; takes no memory.
+    /// Creates one without tags.
+    ///
+    /// # Cost
+    ///
+    /// Takes no memory.
     pub fn new(alloc: Global) -> Tags
         ensures { result.tags ≡ no_tags }
     {
@@ -106,12 +123,19 @@ impl Tags {
         }
     }
 
-    /// Whether the caller may turn this tag on or off at this paper, or the first broken rule. `by` is her
-    /// standing at the paper; `paper` is none where there is no such paper. Whether it is withdrawn stands in
-    /// none of the tags, and no rule asks which of them are on. Takes no search.
+    /// Checks whether the caller may turn this tag on or off at this paper. `by` is the caller's standing at the
+    /// paper; `paper` is none if there is no such paper. Whether it is withdrawn is in none of the tags, and no rule
+    /// asks which of them are on.
     ///
-    /// In this order: `NoPaper`, `NotChair` where the tag is for chairs, `NotMember`, `Conflict` where she is
-    /// in conflict with the paper, `WrongPhase` before the bidding or after the discussion, `Withdrawn`.
+    /// # Errors
+    ///
+    /// The first broken rule, in this order: `NoPaper`, `NotChair` if the tag is for chairs, `NotMember`, `Conflict`
+    /// if the user is in conflict with the paper, `WrongPhase` before the bidding or after the discussion,
+    /// `Withdrawn`.
+    ///
+    /// # Cost
+    ///
+    /// Takes no search.
     pub fn judge_tag(
         &self,
         by: &Standing,
@@ -144,9 +168,16 @@ impl Tags {
         Ok(())
     }
 
-    /// The tags on the paper that are for this user, by their bytes: everyone's, her own private ones, and
-    /// those for chairs where she is one. None where there is no such paper. Found by number; a step for each of
-    /// the paper's tags, and a copy of those for her, of 48 bytes each. An error only for lack of memory.
+    /// Returns the tags on the paper that are for this user, by their bytes: everyone's, their own private ones, and
+    /// those for chairs if the user is one. `None` if there is no such paper.
+    ///
+    /// # Errors
+    ///
+    /// If memory runs out.
+    ///
+    /// # Cost
+    ///
+    /// Found by number; a step for each of the paper's tags, and a copy of those for the user, of 48 bytes each.
     pub fn tags_for<L: Ledger>(
         &self,
         alloc: Global,
@@ -162,8 +193,11 @@ impl Tags {
         Ok(TagList::from_vec(tags))
     }
 
-    /// Whether this tag is among those on the paper that are for this user, as `tags_for` tells them. Found by
-    /// number; a step for each of the paper's tags. Takes no memory.
+    /// Returns whether this tag is among those on the paper that are for this user, as `tags_for` tells them.
+    ///
+    /// # Cost
+    ///
+    /// Found by number; a step for each of the paper's tags. Takes no memory.
     pub fn has_for<L: Ledger>(
         &self,
         user: UserNo,
@@ -178,7 +212,7 @@ impl Tags {
         has_it_for(self.tags.of_paper(paper, steps), tag, user, chair)
     }
 
-    /// Where the tag stands among those on the paper, or else where it would stand.
+    /// Returns the tag's index among those on the paper, or else where it would be.
     fn index_of(&self, paper: PaperNo, tag: &SetTag) -> Result<usize, usize>
         ensures { MatchResult result (IsAt tag.now (filed_of paper self.now.tags))
             (IsGapFor tag.now (filed_of paper self.now.tags)) }
@@ -191,8 +225,15 @@ impl Tags {
 
 /// What entries make of it.
 impl Tags {
-    /// Takes the memory that the entries of one command need; an error only for lack of memory, and the
-    /// tags are the same either way. Each paper at which they turn a tag on is compared with those before it.
+    /// Takes the memory that the entries of one command need. The tags don't change.
+    ///
+    /// # Errors
+    ///
+    /// If memory runs out.
+    ///
+    /// # Cost
+    ///
+    /// Each paper at which they turn a tag on is compared with those before it.
     pub fn room(&mut self, group: &[Stamped]) -> Result<(), AllocError>
         ensures ok { OnOk result (TagsHaveRoom group.now self.new.rooms) }
         ensures same { self.new.tags ≡ self.old.tags }
@@ -202,7 +243,11 @@ impl Tags {
         self.tags.room(&papers)
     }
 
-    /// Turns the tag on, for which there is room; takes no memory.
+    /// Turns the tag on, for which there is room.
+    ///
+    /// # Cost
+    ///
+    /// Takes no memory.
     fn insert(&mut self, paper: PaperNo, tag: Tag, owner: Option<UserNo>)
         requires { 0 < slice_index self.old.rooms paper }
         ensures tags { self.new.tags ≡ tag_switched true
@@ -227,8 +272,8 @@ impl Tags {
         }
     }
 
-    /// One more entry, for which there is room; takes no memory. One that turns a tag on or off costs a binary
-    /// search among the paper's tags, and a move of those behind its index, of 56 bytes each.
+    /// Applies one more entry, for which there is room; takes no memory. One that turns a tag on or off costs a binary
+    /// search among the paper's tags, and a move of those after its index, of 56 bytes each.
     pub fn apply(&mut self, stamped: &Stamped)
         requires { TagsHaveRoom (stamped.now ∷ []) self.old.rooms }
         ensures after { self.new.tags ≡ tags_after self.old.tags stamped.now.stamp.maker stamped.now.entry }
@@ -249,7 +294,7 @@ impl Tags {
     }
 }
 
-/// The paper at which the entry turns a tag on, if it does.
+/// Returns the paper at which the entry turns a tag on, if it does.
 fn paper_tagged(stamped: &Stamped) -> Option<PaperNo>
     ensures { result ≡ paper_tagged stamped.now }
 {
@@ -263,7 +308,7 @@ fn paper_tagged(stamped: &Stamped) -> Option<PaperNo>
     }
 }
 
-/// The papers at which the entries turn tags on, as often as they do.
+/// Returns the papers at which the entries turn tags on, as often as they do.
 fn papers_tagged(alloc: Global, group: &[Stamped]) -> Result<Vec<PaperNo>, AllocError>
     ensures { IfOk result (λ papers. papers.items ≡ filter_map paper_tagged group.now) }
 {

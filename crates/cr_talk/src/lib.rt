@@ -1,5 +1,11 @@
-//! The table of comments and of authors' responses: what was written on papers, found by the paper's number, and how
-//! many comments each user has written.
+//! The table of comments and of authors' responses, by paper, and how many comments each user has written.
+//!
+//! # Proved
+//!
+//! With [what every table proves](../../cr_rooms/src/lib.rt):
+//!
+//! - A paper's comments, a user's count of them, and its response are exact: `Talk::comments`, `count_of_user`,
+//!   `response`.
 #![tactic(auto)]
 
 mod talk;

@@ -17,11 +17,12 @@ use std::sync::ledger::Ledger;
 /// The most comments that one user may write, on all papers.
 pub const MOST_OWN_COMMENTS: u64 = 1_000;
 
-/// What was written on papers: the comments on each in the order in which they came, which are numbered
-/// from 1, and how many each user has written, at most 1,000; and what the authors of each responded, once.
+/// What was written on papers: the comments on each in the order in which they came, which are numbered from 1, and
+/// how many each user has written, at most 1,000; and what the authors of each responded, once.
 ///
-/// Contracts see the comments and the responses paper by paper and the sums, and for how many more of each paper there
-/// is room.
+/// # Model
+///
+/// The comments and the responses paper by paper and the sums, and for how many more of each paper there is room.
 #[derive(Drop)]
 pub struct Talk {
     alloc: Global,
@@ -49,7 +50,11 @@ impl Model for Talk {
 
 /// What is read.
 impl Talk {
-    /// No comments and no responses; takes no memory.
+    /// Creates one without comments and no responses.
+    ///
+    /// # Cost
+    ///
+    /// Takes no memory.
     pub fn new(alloc: Global) -> Talk
         ensures { result.talk ≡ no_talk }
     {
@@ -61,8 +66,11 @@ impl Talk {
         }
     }
 
-    /// The comments on the paper, by number; none where there is no such paper. Found by number, to be read: a step
-    /// for each. Takes no memory.
+    /// Returns the comments on the paper, by number; none if there is no such paper.
+    ///
+    /// # Cost
+    ///
+    /// Found by number, to be read: a step for each. Takes no memory.
     pub fn comments<L: Ledger>(&self, paper: PaperNo, steps: &mut Steps<L>) -> &[Comment]
         ensures comments { result.now ≡ comments_in self.now.talk paper }
         ensures steps { Takes (length (comments_in self.now.talk paper)) steps.old steps.new }
@@ -70,15 +78,22 @@ impl Talk {
         self.comments.of_paper(paper, steps)
     }
 
-    /// How many comments the user has written, 0 to 1,000. One read by number.
+    /// Returns how many comments the user has written, 0 to 1,000.
+    ///
+    /// # Cost
+    ///
+    /// One read by number.
     pub fn count_of_user(&self, user: UserNo) -> u64
         ensures { result ≡ own_comments_in self.now.talk (Some user) }
     {
         self.written.of(user)
     }
 
-    /// What the paper's authors responded; none where they didn't, and where there is no such paper. Found by number,
-    /// without reading another: a step where there is one. Takes no memory.
+    /// Returns what the paper's authors responded; `None` if they didn't, and if there is no such paper.
+    ///
+    /// # Cost
+    ///
+    /// Found by number, without reading another: a step where there is one. Takes no memory.
     pub fn response<L: Ledger>(&self, paper: PaperNo, steps: &mut Steps<L>) -> Option<&Text>
         ensures response { option_copied result ≡ response_in self.now.talk paper }
         ensures steps { TakesAtMost 1 steps.old steps.new }
@@ -87,12 +102,18 @@ impl Talk {
         self.responses.last(paper, steps)
     }
 
-    /// Whether the authors of this paper may respond now, or the first broken rule. `by` is the caller's standing at
-    /// the paper; `paper` is none where there is no such paper. Whether it is withdrawn doesn't stand in this table.
-    /// `late` is what `Stage::is_late` says at the request's moment. One read by number at most; takes no memory.
+    /// Checks whether the authors of this paper may respond now. `by` is the caller's standing at the paper; `paper`
+    /// is none if there is no such paper. Whether it is withdrawn isn't in this table. `late` is what `Stage::is_late`
+    /// says at the request's moment.
     ///
-    /// In this order: `NoPaper`, `NotAuthor`, `WrongPhase` where it isn't the response, `Late` where it is too late,
-    /// `Withdrawn`, `AlreadyResponded` where one of the authors has responded.
+    /// # Errors
+    ///
+    /// The first broken rule, in this order: `NoPaper`, `NotAuthor`, `WrongPhase` if it isn't the response, `Late` if
+    /// it is too late, `Withdrawn`, `AlreadyResponded` if one of the authors has responded.
+    ///
+    /// # Cost
+    ///
+    /// One read by number at most; takes no memory.
     pub fn judge_respond(
         &self,
         by: &Standing,
@@ -125,13 +146,18 @@ impl Talk {
         Ok(())
     }
 
-    /// The number that a comment by this maker on this paper would have now, the count of those on it plus
-    /// 1, or the first broken rule. `by` is the maker's standing at the paper; `paper` is none where there
-    /// is no such paper. Whether it is withdrawn stands in none of the comments. `late` is what `Stage::is_late`
-    /// says at the request's moment. Two reads by number at most; takes no memory.
+    /// Returns the number that a comment by this maker on this paper would have now, the count of those on it plus 1.
+    /// `by` is the maker's standing at the paper; `paper` is none if there is no such paper. Whether it is withdrawn
+    /// is in none of the comments. `late` is what `Stage::is_late` says at the request's moment.
     ///
-    /// In this order: `NoPaper`, `NotMember`, `Conflict`, `WrongPhase` where it isn't the discussion, `Late`
-    /// where it is too late, `Withdrawn`, `QuotaComments` where she has written 1,000 comments.
+    /// # Errors
+    ///
+    /// The first broken rule, in this order: `NoPaper`, `NotMember`, `Conflict`, `WrongPhase` if it isn't the
+    /// discussion, `Late` if it is too late, `Withdrawn`, `QuotaComments` if the caller has written 1,000 comments.
+    ///
+    /// # Cost
+    ///
+    /// Two reads by number at most; takes no memory.
     pub fn judge_comment(
         &self,
         by: &Standing,
@@ -170,9 +196,13 @@ impl Talk {
 
 /// What entries make of it.
 impl Talk {
-    /// Takes the memory that the entries of one command need, and the first time 40,000 bytes for the sums; an
-    /// error only for lack of memory, and what is kept is the same either way. Each paper that they comment on, or
-    /// whose authors respond, is compared with those before it.
+    /// Takes the memory that the entries of one command need, and the first time 40,000 bytes for the sums. What is
+    /// kept doesn't change. Each paper that they comment on, or whose authors respond, is compared with those before
+    /// it.
+    ///
+    /// # Errors
+    ///
+    /// If memory runs out.
     pub fn room(&mut self, group: &[Stamped]) -> Result<(), AllocError>
         ensures ok { OnOk result (TalkHasRoom group.now self.new.rooms) }
         ensures same { self.new.talk ≡ self.old.talk }
@@ -185,8 +215,12 @@ impl Talk {
         self.responses.room(&responded)
     }
 
-    /// One more entry, for which there is room. It is taken whole, since a comment's and a response's text is kept;
-    /// takes no memory. A comment costs two reads by number, a response one, and neither moves any of the others.
+    /// Applies one more entry, for which there is room. It is taken whole, since a comment's and a response's text is
+    /// kept.
+    ///
+    /// # Cost
+    ///
+    /// A comment costs two reads by number, a response one, and neither moves any of the others. Takes no memory.
     pub fn apply(&mut self, stamped: Stamped)
         requires room { TalkHasRoom (stamped ∷ []) self.old.rooms }
         requires fits { TalkFit self.old.talk stamped.stamp.maker stamped.entry }
@@ -219,7 +253,7 @@ impl Talk {
     }
 }
 
-/// The paper on which the entry comments, if it does.
+/// Returns the paper on which the entry comments, if it does.
 fn paper_commented(stamped: &Stamped) -> Option<PaperNo>
     ensures { result ≡ paper_commented stamped.now }
 {
@@ -229,7 +263,7 @@ fn paper_commented(stamped: &Stamped) -> Option<PaperNo>
     }
 }
 
-/// The papers on which the entries comment, as often as they do.
+/// Returns the papers on which the entries comment, as often as they do.
 fn papers_commented(alloc: Global, group: &[Stamped]) -> Result<Vec<PaperNo>, AllocError>
     ensures { IfOk result (λ papers. papers.items ≡ filter_map paper_commented group.now) }
 {
@@ -239,7 +273,7 @@ fn papers_commented(alloc: Global, group: &[Stamped]) -> Result<Vec<PaperNo>, Al
         .collect(alloc)
 }
 
-/// The paper whose authors respond by the entry, if they do.
+/// Returns the paper whose authors respond by the entry, if they do.
 fn paper_responded(stamped: &Stamped) -> Option<PaperNo>
     ensures { result ≡ paper_responded stamped.now }
 {
@@ -249,7 +283,7 @@ fn paper_responded(stamped: &Stamped) -> Option<PaperNo>
     }
 }
 
-/// The papers whose authors respond by the entries, as often as they do.
+/// Returns the papers whose authors respond by the entries, as often as they do.
 fn papers_responded(alloc: Global, group: &[Stamped]) -> Result<Vec<PaperNo>, AllocError>
     ensures { IfOk result (λ papers. papers.items ≡ filter_map paper_responded group.now) }
 {

@@ -1,7 +1,15 @@
-//! Nothing that is hidden can be ruled out, by any group; and how somebody came to what she may see.
+//! Nothing hidden can be ruled out, by any group; and how somebody came to what they may see. All claims are of legal
+//! histories. [CLAIMS.md](../../../docs/CLAIMS.md#what-cant-be-ruled-out) has their premises.
 //!
-//! The definitions stand in this crate's specs, over the views and the legal histories of `cr_policy` and the bounds of
-//! `cr_bounds`. On this one stands `cr_laws` alone. The functions here do nothing: each has a law as its contract.
+//! # Proved
+//!
+//! - Other values of all that no user of a group was shown: the history stays legal, and each look shows the same:
+//!   `law_undeducible`.
+//! - Revisions, bids, tags and decisions may have been made besides, or not: `law_may_have_been`.
+//! - An entry may have been added by another user who could have: `law_makers`.
+//! - Two users with the same role may have had each other's place at a paper that neither wrote: `law_twins`.
+//! - What a view tells though no part of it says so: `law_deducible`.
+//! - How somebody came to what lets them see or do something: `law_how_one_came`.
 #![tactic(auto)]
 
 ghost use Rattle.cr_undeduced.specs.Deducible.{VersionsTell, FormNumbersTell, CommentNumbersTell, LabelsTell};
@@ -13,24 +21,28 @@ ghost use Rattle.cr_undeduced.specs.MayHaveBeen.{Inserted, LeftOut, BesidesUnsee
 ghost use Rattle.cr_undeduced.specs.Twins.{TwinsLegal, TwinsUnseen, TwinsUnnamed};
 ghost use Rattle.cr_undeduced.specs.Undeducible.{OthersLegal, ShorterLegal, LooksAlike, GroupAlike};
 
-/// Of what nobody of a group was shown whenever they looked, they can rule out no value, though they tell each other
-/// all that they saw (nondeducibility: Sutherland, 1986). Take a legal history, any looks at it, each of a user or of
-/// an unauthenticated caller after so many entries, and for each of its places any other digest, title, abstract,
-/// content, bid, kind of seat, form, comment, response, tag, switch of a tag and decision, and any other moment, number
-/// and mark. The other history has these wherever the bounds give none of those who looked the part, all at once, part
-/// by part: it is legal, and at each of the looks the same is seen of it. What a part is shown for is said in the words
-/// of the bounds (`ShownTo`), so a trigger table that shows more is refused.
+/// Users who tell each other all that they saw can rule out no value that none of them was shown (nondeducibility:
+/// Sutherland, 1986).
 ///
-/// A command's entries have one moment, number and mark, and keep them where somebody who looked made them. A tag stays
-/// where the other isn't for the same, who are the committee, chairs, or whoever sets it. One thing stays though nobody
-/// is shown it: where somebody looked at the notification or later, the last decision on each paper that there was
-/// then, since whether it is accepted everyone is shown.
+/// Take a legal history and any looks at it, each of a user or an unauthenticated caller after so many entries. Choose
+/// for each place any other digest, title, abstract, content, bid, kind of assignment, form, comment, response, tag,
+/// switch of a tag and decision, and any other timestamp, number and request digest. The other history has these, all
+/// at once, part by part, wherever the bounds (`ShownTo`) show none of the looks the part. It is legal, and each look
+/// shows the same. So a policy that shows more makes this false.
 ///
-/// The clause `legal` asks that the other values be within the bounds of commands, that no moment be too late for what
-/// the phase opens unless the one whose place it takes is, that no user have a number twice, nor a registration one
-/// (`StampsFit`), and that nobody have uploaded more than 64 MiB by them; `shorter` asks all but the last, and that no
-/// content be longer than the one whose place it takes. `looks` holds of every history, legal or not. `group` is that
-/// of a group who look at the end: each sees the same view.
+/// - A command's entries have one timestamp, number and digest; they stay if their actor looked.
+/// - A tag stays if the other is for other readers: the committee, chairs, or the user who sets it.
+/// - If there is a look from the notification on, the last decision on each paper by then stays, since everyone is
+///   shown whether it is accepted.
+///
+/// Clauses:
+///
+/// - `legal`: the other values are within the bounds of commands. No timestamp is too late for what the phase opens
+///   unless the one that it replaces is. No user has a number twice, no registration has one (`StampsFit`). By them no
+///   user has uploaded more than 64 MiB.
+/// - `shorter`: all but the last; instead no content is longer than the one that it replaces.
+/// - `looks`: of every history, legal or not.
+/// - `group`: of users who look at the end, each of whom sees the same view.
 pub fn law_undeducible()
     ensures legal { OthersLegal }
     ensures shorter { ShorterLegal }
@@ -39,26 +51,36 @@ pub fn law_undeducible()
 {}
 
 /// Revisions, bids, tags and decisions may have been made besides, or not: no rule reads what they tell, nor that they
-/// are there. Where a list of them, by commands without a number, would have been accepted in a legal history, what
-/// came of the commands and bulks that followed is legal behind them as well (`inserted`), with the same entries, and
-/// what came behind them is legal where they are left out (`left_out`). Whoever is told of none of them by the bounds
-/// sees the same with them and without, where the same papers are accepted (`unseen`): so from the notification on any
-/// sequence of decisions with the same last one looks the same to who is told of the last alone.
+/// are there. Take a list of them, by commands without a number, that a legal history would have accepted.
+///
+/// - `inserted`: what came of the commands and bulks that followed is legal after them, with the same entries.
+/// - `left_out`: what came after them is legal without them.
+/// - `unseen`: a user who by the bounds is told of none of them sees the same with and without them, if the same
+///   papers are accepted. So from the notification on, decisions with the same last one look the same to a user who is
+///   told only the last.
 pub fn law_may_have_been()
     ensures inserted { Inserted }
     ensures left_out { LeftOut }
     ensures unseen { BesidesUnseen }
 {}
 
-/// How somebody came to be what lets her see or do, in each legal history. Each clause names the entry that made her
-/// so, between those before it and those behind it, so the row in a store; says by what right it was made, in the words
-/// of the sentences on who may do what; and that nothing behind it did otherwise. A member or a chair: named by a chair
-/// before the notification, the first user as she registers. An author: she submitted the paper in the submission, or
-/// one of its authors named her. A reviewer: assigned by a chair in no conflict with the paper while the committee
-/// worked, when she was in none herself. An external: invited by such a chair. One in declared conflict: declared by an
-/// author before the bidding, and from then on by herself or such a chair. An accepted paper: decided on so by such a
-/// chair in the discussion. And whoever is shown that another wrote a form on a paper is an author of it, from the
-/// response on, discusses it, or is a chair in no conflict with it; and came to be so.
+/// How somebody came to be what lets them see or do something. Each clause names the entry that made them so, between
+/// those before it and those after it, and so the row in a store. It says by what right the entry was made, in the
+/// words of the sentences on permissions, and that nothing after it changed that.
+///
+/// - `members`: a member or a chair was appointed by a chair before the notification; the first user became one by
+///   registering.
+/// - `authors`: an author submitted the paper, or an author named them in the submission.
+/// - `reviewers`: an unconflicted chair assigned the reviewer while the committee worked and the reviewer was
+///   unconflicted.
+/// - `externals`: an unconflicted chair invited the external while the committee worked.
+/// - `conflicts`: an author declared the conflict before the bidding; from then on the user did, or an unconflicted
+///   chair.
+/// - `accepted`: an unconflicted chair decided so in the discussion.
+/// - `form_readers`: a user shown that another wrote a form is an author of the paper, from the response on, discusses
+///   it, or is an unconflicted chair; and came to be so.
+///
+/// *Scope:* legal histories.
 pub fn law_how_one_came()
     ensures members { MembersCame }
     ensures authors { AuthorsCame }
@@ -69,12 +91,17 @@ pub fn law_how_one_came()
     ensures form_readers { FormReadersCame }
 {}
 
-/// What a view tells though no part of it says so, of each legal history. A version's number tells whoever is shown it
-/// that so many contents were uploaded to the paper; a form's, that so many were written under its label; a comment's,
-/// that so many were written on the paper, also whoever wrote it and is no longer shown any other; and a label, that so
-/// many were given, so to a paper's authors that a letter left out among their reviews was given too. Where one user
-/// alone was ever named a chair, which everyone is shown, she made each entry that chairs alone make, though nobody is
-/// shown who made it. That is all that is stated, not all that there is.
+/// What a view tells though no part of it says so. This is all that is stated, not all that there is.
+///
+/// - `versions`, `form_numbers`, `comment_numbers`: a number tells a user who is shown it that so many contents were
+///   uploaded to the paper, forms written under the label, or comments written on the paper. A comment's number tells
+///   its writer, though they may be shown no other comment.
+/// - `labels`: a label tells that so many were given. A letter that is missing among an author's reviews was given
+///   too.
+/// - `one_chair`: if only one user was ever appointed chair, which everyone is shown, that user made each entry that
+///   only chairs make.
+///
+/// *Scope:* legal histories.
 pub fn law_deducible()
     ensures versions { VersionsTell }
     ensures form_numbers { FormNumbersTell }
@@ -83,31 +110,38 @@ pub fn law_deducible()
     ensures one_chair { OneChairActs }
 {}
 
-/// Who made an entry may have been any other user who had the right then, in each legal history: who turned a phase,
-/// set a mode or a deadline, named or dismissed may have been any other chair; who changed or withdrew a paper, or
-/// responded, any other of its authors; who assigned, took off, invited, took that back, decided, or declared or took
-/// back another's conflict, any other chair in no conflict with the paper; who declared one before the bidding, any
-/// other author; and who bid or turned a tag, any other member in no conflict. So of all entries at once, each command
-/// and bulk by another for itself: the history in which these made them is legal, where another's command has no
-/// number (`legal`). A bulk's entries have one maker, who is a chair. Whoever is neither of the two, and by the bounds
-/// isn't told who made the entry, sees the same when she looks (`unseen`); she must not be an author of a paper with
-/// which a conflict was declared by an author in one of the two histories alone, since authors are told what authors
-/// declare. Not of registrations, submissions, uploads, forms and comments: rules and labels read who made these.
+/// An entry's actor may have been any other user who had the right then. For a phase, a mode, a deadline, an
+/// appointment or a dismissal that is any other chair; for a revision, a withdrawal or a response any other author of
+/// the paper; for an assignment, an unassignment, an invitation, its end, a decision, or another user's conflict any
+/// other unconflicted chair; for a conflict before the bidding any other author; for a bid or a tag any other
+/// unconflicted member. This isn't said of registrations, submissions, uploads, forms and comments: rules and labels
+/// read their actors.
+///
+/// - `legal`: with such actors for any entries at once, one for each command and bulk, the history is legal. Another
+///   user's command has no number. A bulk's entries have one actor, who is a chair.
+/// - `unseen`: a user who is neither of the two, and by the bounds isn't told the actor, sees the same. They are no
+///   author of a paper with which an author declared a conflict in only one of the two histories, since authors are
+///   told what authors declare.
+///
+/// *Scope:* legal histories.
 pub fn law_makers()
     ensures legal { OtherMakersLegal }
     ensures unseen { OtherMakersUnseen }
 {}
 
 /// Two users of one role, of whom neither wrote a paper, are twins at it: they may have had each other's place there.
-/// Take a legal history, and the one in which they change places in every entry on the paper, as who made it and as
-/// whom it names: who bid, is declared in conflict, invited or assigned, wrote forms and comments, turned tags,
-/// decided, assigned, invited. That history is legal (`legal`), where at each entry that names another then, or is made
-/// by another, both have registered and have the same role; where none that changes hands is one of several of a bulk,
-/// whose other rows may be on other papers; and where nobody has written more than 1,000 comments in it. Another's
-/// command has no number there. Whoever is neither of the two, and by the bounds isn't told who made these entries nor
-/// whom they name, sees the same when she looks (`unseen`). So it is in the anonymous mode of everyone but chairs, and
-/// in any mode but the open one of the paper's authors, where she made none of the entries that name one of the two
-/// herself, as a chair who was dismissed has, and no author of a paper of hers declared one of them (`unnamed`).
+/// In the other history they change places in every entry on the paper, as its actor and as the user named.
+///
+/// - `legal`: that history is legal, if at each entry that names or is made by another then, both have registered and
+///   have the same role; none that changes hands is one of several of a bulk, whose other rows may be on other papers;
+///   and no user has written more than 1,000 comments in it. Another user's command has no number there.
+/// - `unseen`: a user who is neither of the two, and by the bounds is told neither the actors of these entries nor the
+///   users that they name, sees the same.
+/// - `unnamed`: so does everyone but chairs in the anonymous mode, and the paper's authors in any mode but the open
+///   one. They made none of the entries that name one of the two, as a dismissed chair may have, and no author of a
+///   paper of theirs declared one of the two.
+///
+/// *Scope:* legal histories.
 pub fn law_twins()
     ensures legal { TwinsLegal }
     ensures unseen { TwinsUnseen }

@@ -10,8 +10,8 @@ use crate::live::Live;
 use cr_base::{AcceptedPaper, AcceptedPapers, Decision, PaperNo, Phase, Query, Steps, Text};
 use std::alloc::{AllocError, Global};
 
-/// Whether a paper that is withdrawn or isn't, and of which this was decided last, is accepted in this phase: it was
-/// decided to accept it, it isn't withdrawn, and its authors are told, which they are from the notification on.
+/// Returns whether a paper that is withdrawn or isn't, and of which this was decided last, is accepted in this phase:
+/// it was decided to accept it, it isn't withdrawn, and its authors are told, which they are from the notification on.
 pub(crate) fn is_accepted_when(phase: Phase, withdrawn: bool, decision: Option<Decision>) -> bool
     ensures { result ≡ is_accepted_when phase withdrawn decision }
 {
@@ -23,8 +23,11 @@ pub(crate) fn is_accepted_when(phase: Phase, withdrawn: bool, decision: Option<D
 
 /// Which papers are accepted.
 impl Live {
-    /// Whether the paper is accepted, as `is_accepted_when` tells it; false where there is no such paper. Three reads
-    /// by number; takes no memory.
+    /// Returns whether the paper is accepted, as `is_accepted_when` tells it; false if there is no such paper.
+    ///
+    /// # Cost
+    ///
+    /// Three reads by number. Takes no memory.
     pub fn is_accepted(&self, paper: PaperNo) -> bool
         ensures { result ≡ is_accepted_in self.now.tables paper }
     {
@@ -35,7 +38,7 @@ impl Live {
         )
     }
 
-    /// Whether a paper is named, and is accepted.
+    /// Returns whether a paper is named, and is accepted.
     pub(crate) fn has_accepted(&self, paper: &Option<PaperNo>) -> bool
         ensures { result ≡ at_some (is_accepted_in self.now.tables) paper.now }
     {
@@ -45,7 +48,7 @@ impl Live {
         }
     }
 
-    /// Whether a paper is named, and everyone is served it: it is accepted, and the conference is closed.
+    /// Returns whether a paper is named, and everyone is served it: it is accepted, and the conference is closed.
     pub(crate) fn has_published(&self, paper: &Option<PaperNo>) -> bool
         ensures { result ≡ is_published self.now.tables.stage.phase
             (at_some (is_accepted_in self.now.tables) paper.now) }
@@ -55,8 +58,12 @@ impl Live {
             .publishes(self.has_accepted(paper))
     }
 
-    /// Whether nobody may not ask this: what is asked for is a registered user's, and isn't the page or the
-    /// content of a published paper. Costs what `is_accepted` does.
+    /// Returns whether the query requires authentication: its request does, and it isn't for the page or the content
+    /// of a published paper.
+    ///
+    /// # Cost
+    ///
+    /// What `is_accepted` does.
     pub fn needs_login(&self, query: &Query) -> bool
         ensures { result ≡ login_wanted (facts_of_tables self.now.tables None) query.now }
     {
@@ -71,10 +78,13 @@ impl Live {
 
 /// What everyone is told of them.
 impl Live {
-    /// The accepted papers, by number, each with its last title and the names of its authors, the submitter
-    /// first; an error only for lack of memory. A walk over all papers, which costs each what `is_accepted`
-    /// does; of those that are accepted two more, and a look-up for each author. Shares the titles, and
-    /// takes no memory but for the answer.
+    /// Returns the accepted papers, by number, each with its last title and the names of its authors, the submitter
+    /// first. A walk over all papers, which costs each what `is_accepted` does; of those that are accepted two more,
+    /// and a look-up for each author. Shares the titles, and takes no memory except the answer.
+    ///
+    /// # Errors
+    ///
+    /// If memory runs out.
     pub fn accepted(&self, alloc: Global) -> Result<AcceptedPapers, AllocError>
         ensures { IfOk result (λ papers. papers
             ≡ accepted_by (facts_of_tables self.now.tables None) (shown_in_tables self.now.tables)) }
@@ -86,7 +96,11 @@ impl Live {
         Ok(AcceptedPapers::from_vec(papers))
     }
 
-    /// Adds what is told of the paper, where it is accepted; an error only for lack of memory.
+    /// Adds what is told of the paper, if it is accepted.
+    ///
+    /// # Errors
+    ///
+    /// If memory runs out.
     fn push_accepted(
         &self,
         papers: &mut Vec<AcceptedPaper>,
@@ -103,7 +117,11 @@ impl Live {
         Ok(())
     }
 
-    /// What is told of the paper; an error only for lack of memory.
+    /// Returns what is told of the paper.
+    ///
+    /// # Errors
+    ///
+    /// If memory runs out.
     fn accepted_paper(&self, alloc: Global, paper: PaperNo) -> Result<AcceptedPaper, AllocError>
         ensures { IfOk result (λ told. told
             ≡ accepted_paper (facts_of_tables self.now.tables None) (shown_in_tables self.now.tables) paper) }
@@ -117,7 +135,11 @@ impl Live {
         })
     }
 
-    /// The paper's last title, shared; no bytes where there is no such paper. An error only for lack of memory.
+    /// Returns the paper's last title, shared; no bytes if there is no such paper.
+    ///
+    /// # Errors
+    ///
+    /// If memory runs out.
     pub fn title_of(&self, alloc: Global, paper: PaperNo) -> Result<Text, AllocError>
         ensures { IfOk result (λ title. title ≡ unwrap_or (title_at self.now.tables.papers paper) []) }
     {

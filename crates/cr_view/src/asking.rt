@@ -9,11 +9,15 @@ use crate::live::Live;
 use cr_base::{PaperNo, Query, Rule, Steps, UserNo};
 
 impl Live {
-    /// Whether a user, or nobody, may ask the query, or the first rule of its kind that it breaks: each rule that
-    /// `show`, `content_for`, `reviews_for`, `comments_for`, `response_for`, `may_have` and `may_plan` tell, but not
-    /// `NoPlan`, which memory finds. No rule stands in the way of a search, nor of any other query. It costs what the
-    /// rules of its kind read: a few reads of the paper that is named, and for a plan what `may_plan` does. Takes no
-    /// memory.
+    /// Checks whether a user, or an unauthenticated caller, may ask the query, or the first rule of its kind that it
+    /// breaks: each rule that `show`, `content_for`, `reviews_for`, `comments_for`, `response_for`, `may_have` and
+    /// `may_plan` tell, but not `NoPlan`, which memory finds. No rule is in the way of a search, nor of any other
+    /// query.
+    ///
+    /// # Cost
+    ///
+    /// What the rules of its kind read: a few reads of the paper that is named, and for a plan what `may_plan` does.
+    /// Takes no memory.
     pub fn may(&self, user: &Option<UserNo>, query: &Query) -> Result<(), Rule>
         ensures { result ≡ judged (query_checks (facts_of_tables self.now.tables user.now)
             (shown_in_tables self.now.tables) query.now) tt }
@@ -36,7 +40,7 @@ impl Live {
         }
     }
 
-    /// Whether she may see the page of the paper.
+    /// Checks whether the user may see the page of the paper.
     fn may_see(&self, user: &Option<UserNo>, paper: &Option<PaperNo>) -> Result<(), Rule>
         ensures { result ≡ judged (query_checks (facts_of_tables self.now.tables user.now)
             (shown_in_tables self.now.tables) (queries.Page paper.now)) tt }
@@ -47,7 +51,7 @@ impl Live {
         }
     }
 
-    /// Whether she may read the content of the paper's last version.
+    /// Checks whether the user may read the content of the paper's last version.
     fn may_take_content(&self, user: &Option<UserNo>, paper: &Option<PaperNo>) -> Result<(), Rule>
         ensures { result ≡ judged (query_checks (facts_of_tables self.now.tables user.now)
             (shown_in_tables self.now.tables) (queries.Content paper.now)) tt }
@@ -58,7 +62,7 @@ impl Live {
         }
     }
 
-    /// Whether she may read the content of this version of it.
+    /// Checks whether the user may read the content of this version of it.
     fn may_take_version(
         &self,
         user: &Option<UserNo>,
@@ -74,7 +78,7 @@ impl Live {
         }
     }
 
-    /// Whether she may read the reviews of the paper.
+    /// Checks whether the user may read the reviews of the paper.
     fn may_read_reviews(&self, user: &Option<UserNo>, paper: &Option<PaperNo>) -> Result<(), Rule>
         ensures { result ≡ judged (query_checks (facts_of_tables self.now.tables user.now)
             (shown_in_tables self.now.tables) (queries.Reviews paper.now)) tt }
@@ -85,7 +89,7 @@ impl Live {
         }
     }
 
-    /// Whether she may read the comments on it.
+    /// Checks whether the user may read the comments on it.
     fn may_read_comments(&self, user: &Option<UserNo>, paper: &Option<PaperNo>) -> Result<(), Rule>
         ensures { result ≡ judged (query_checks (facts_of_tables self.now.tables user.now)
             (shown_in_tables self.now.tables) (queries.Comments paper.now)) tt }
@@ -96,7 +100,7 @@ impl Live {
         }
     }
 
-    /// Whether she may read what its authors responded.
+    /// Checks whether the user may read what its authors responded.
     fn may_read_response(&self, user: &Option<UserNo>, paper: &Option<PaperNo>) -> Result<(), Rule>
         ensures { result ≡ judged (query_checks (facts_of_tables self.now.tables user.now)
             (shown_in_tables self.now.tables) (queries.Response paper.now)) tt }

@@ -17,8 +17,11 @@ use cr_base::{
 };
 use std::alloc::{AllocError, Global};
 
-/// Whether one who stands so to a paper, which is there or isn't, may ask for the comments
-/// on it, or the first broken rule.
+/// Checks whether a caller with this standing at a paper, which is there or isn't, may ask for the comments on it.
+///
+/// # Errors
+///
+/// The first broken rule.
 pub(crate) fn comments_rule(by: &Standing, there: bool) -> Result<(), Rule>
     ensures { result ≡ judged (comments_checks by.now (of_there there)) tt }
 {
@@ -35,12 +38,19 @@ pub(crate) fn comments_rule(by: &Standing, there: bool) -> Result<(), Rule>
     Ok(())
 }
 
-/// Who is answered.
+/// Who may read comments.
 impl Live {
-    /// The comments on a paper as a user, or nobody, is told them, by number, or the first broken rule:
-    /// `NoPaper` where there is no such paper, else `NotMember`, else `Conflict` where she is in conflict with
-    /// it, else `WrongPhase` before the discussion. An error for lack of memory only where no rule is broken.
-    /// Shares the texts. A walk over the comments on the paper, with one read by number each.
+    /// Returns the comments on a paper as a user, or an unauthenticated caller, is told them, by number. Fails for
+    /// lack of memory only if no rule is broken. Shares the texts.
+    ///
+    /// # Errors
+    ///
+    /// The first broken rule: `NoPaper` if there is no such paper, else `NotMember`, else `Conflict` if the user is in
+    /// conflict with it, else `WrongPhase` before the discussion.
+    ///
+    /// # Cost
+    ///
+    /// A walk over the comments on the paper, with one read by number each.
     pub fn comments_for(
         &self,
         alloc: Global,
@@ -62,7 +72,7 @@ impl Live {
         }
     }
 
-    /// The same as a reply.
+    /// Returns this as a reply.
     pub(crate) fn comments_reply(
         &self,
         alloc: Global,
@@ -77,7 +87,11 @@ impl Live {
         }
     }
 
-    /// How she stands to the paper whose comments she may ask for, or the first broken rule.
+    /// Returns the caller's standing at the paper whose comments the user may ask for.
+    ///
+    /// # Errors
+    ///
+    /// The first broken rule.
     pub(crate) fn comments_reader(
         &self,
         user: &Option<UserNo>,
@@ -95,7 +109,7 @@ impl Live {
 
 /// What is told.
 impl Live {
-    /// These comments as one who stands so to their paper is told of them.
+    /// Returns these comments as a caller with this standing at their paper is told of them.
     fn comment_lines(
         &self,
         alloc: Global,
@@ -111,7 +125,7 @@ impl Live {
         Ok(CommentLines::from_vec(lines))
     }
 
-    /// A comment as one who stands so to its paper is told of it.
+    /// Returns a comment as a caller with this standing at its paper is told of it.
     fn comment_line(&self, by: &Standing, comment: &Comment) -> Result<CommentLine, AllocError>
         ensures { IfOk result (λ line. line
             ≡ comment_line by.now (lines_of self.now.tables.accounts) (comment_as_told comment.now)) }
@@ -125,7 +139,11 @@ impl Live {
         })
     }
 
-    /// The name of who wrote a comment, where it is told. One read by number, where it is.
+    /// Returns the name of who wrote a comment, if it is told.
+    ///
+    /// # Cost
+    ///
+    /// One read by number, if it is.
     fn writer_name(&self, by: &Standing, writer: UserNo) -> Option<Short>
         ensures { result ≡ writer_name self.now.tables by.now writer }
     {
@@ -136,7 +154,7 @@ impl Live {
     }
 }
 
-/// The label under which a comment was written, where its writer's name isn't told and she had one.
+/// Returns the label under which a comment was written, if its writer's name isn't told and the user had one.
 fn writer_label(by: &Standing, ordinal: Option<Ordinal>) -> Option<Ordinal>
     ensures { result ≡ writer_label by.now ordinal }
 {

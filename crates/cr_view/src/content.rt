@@ -9,12 +9,16 @@ use crate::queries::AnswerError;
 use cr_base::{Blob, PaperNo, Reply, Rule, Standing, Steps, UserNo};
 
 impl Live {
-    /// The content of a version of a paper, or of its last one, as a user, or nobody, may read it, or the
-    /// first broken rule: `NoPaper` where there is no such paper; where she is no author of it and it isn't
-    /// published, `NotMember`, else `Conflict` where she is in conflict with it, else `WrongPhase` before the
-    /// bidding; else `NoContent` where the paper has no such version, or where she is no author of it and that
-    /// isn't the last one. An error for lack of memory only where no rule is broken. The bytes are shared: the
-    /// cost is a few reads by number, that of `is_accepted` and one look-up, whatever their number.
+    /// Returns the content of a version of a paper, or of its last one, as a user, or an unauthenticated caller, may
+    /// read it. Fails for lack of memory only if no rule is broken. The bytes are shared: the cost is a few reads by
+    /// number, that of `is_accepted` and one look-up, whatever their number.
+    ///
+    /// # Errors
+    ///
+    /// The first broken rule: `NoPaper` if there is no such paper; if the user is no author of it and it isn't
+    /// published, `NotMember`, else `Conflict` if the user is in conflict with it, else `WrongPhase` before the
+    /// bidding; else `NoContent` if the paper has no such version, or if the user is no author of it and that isn't
+    /// the last one.
     pub fn content_for(
         &self,
         user: &Option<UserNo>,
@@ -29,7 +33,7 @@ impl Live {
         }
     }
 
-    /// The same as a reply.
+    /// Returns this as a reply.
     pub(crate) fn content_reply(
         &self,
         user: &Option<UserNo>,
@@ -44,7 +48,11 @@ impl Live {
         }
     }
 
-    /// The content, lent, or the first broken rule.
+    /// Returns the content, lent.
+    ///
+    /// # Errors
+    ///
+    /// The first broken rule.
     pub(crate) fn content_told(
         &self,
         user: &Option<UserNo>,
@@ -68,8 +76,11 @@ impl Live {
         }
     }
 
-    /// How she stands to the paper of which she may read some content, if there is any, or the first broken
-    /// rule.
+    /// Returns the caller's standing at the paper of which the user may read some content, if there is any.
+    ///
+    /// # Errors
+    ///
+    /// The first broken rule.
     fn content_reader(
         &self,
         user: &Option<UserNo>,
@@ -96,8 +107,8 @@ impl Live {
         Ok(by)
     }
 
-    /// The content that she is told who stands so to the paper: of any version to authors, of the last
-    /// alone to others.
+    /// Returns the content that the user is told with this standing at the paper: of any version to authors, of only
+    /// the last to others.
     fn content_of(&self, by: &Standing, paper: PaperNo, version: Option<u64>) -> Option<&Blob>
         ensures { option_copied result ≡ content_at self.now.tables by.now.author paper version }
     {

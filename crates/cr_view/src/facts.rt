@@ -17,24 +17,26 @@ use cr_base::{Decision, Ordinal, Paper, PaperNo, Standing, Steps, Text, Uncounte
 use std::marker::Model;
 use std::sync::ledger::Ledger;
 
-/// What a user, or nobody, is to a paper.
+/// What a user, or an unauthenticated caller, is to a paper.
 #[derive(Drop)]
 pub(crate) struct PaperTie {
-    /// Whether she is an author of it.
+    /// True if the user is an author of it.
     author: bool,
-    /// Whether she is in conflict with it, as each author is.
+    /// True if the user is in conflict with it, as each author is.
     conflicted: bool,
-    /// The ordinal of the label under which she reviews it, if she does.
+    /// The ordinal of the label under which the user reviews it, if the user does.
     label: Option<Ordinal>,
-    /// Whether she is an external of it.
+    /// True if the user is an external of it.
     external: bool,
 }
 
-/// What is asked of one paper for one caller: how she stands to it, the label under which she reviews it, the last
-/// decision on it, its texts and whether it is withdrawn. It is lent by the tables; lists are no part of it, since
-/// they are read where they are told.
+/// What is asked of one paper for one caller: the caller's standing at it, the label under which the user reviews it,
+/// the last decision on it, its texts and whether it is withdrawn. It is lent by the tables; lists are no part of it,
+/// since they are read if they are told.
 ///
-/// Contracts see these.
+/// # Model
+///
+/// These.
 #[derive(Drop)]
 pub struct PaperFacts<'a> {
     paper: PaperNo,
@@ -61,28 +63,28 @@ impl<'a> Model for PaperFacts<'a> {
 
 /// What they are. No call takes memory, or reads the tables.
 impl<'a> PaperFacts<'a> {
-    /// The paper's number.
+    /// Returns the paper's number.
     pub fn paper(&self) -> PaperNo
         ensures { result ≡ self.now.paper }
     {
         self.paper
     }
 
-    /// How the caller stands to it.
+    /// Returns the caller's standing at it.
     pub fn by(&self) -> &Standing
         ensures { result.now ≡ self.now.by }
     {
         &self.by
     }
 
-    /// The ordinal of the label under which she reviews it, if she does.
+    /// Returns the ordinal of the label under which the user reviews it, if the user does.
     pub fn label(&self) -> Option<Ordinal>
         ensures { result ≡ self.now.label }
     {
         self.label
     }
 
-    /// Whether it is withdrawn; false where there is no such paper.
+    /// Returns whether it is withdrawn; false if there is no such paper.
     pub fn is_withdrawn(&self) -> bool
         ensures { result ≡ withdrawn_seen self.now }
     {
@@ -92,14 +94,14 @@ impl<'a> PaperFacts<'a> {
         }
     }
 
-    /// Whether it is accepted.
+    /// Returns whether it is accepted.
     pub fn is_accepted(&self) -> bool
         ensures { result ≡ accepted_seen self.now }
     {
         is_accepted_when(self.by.phase, self.is_withdrawn(), self.decision)
     }
 
-    /// What was decided of it last: to accept it, where it is accepted.
+    /// Returns what was decided of it last: to accept it, if it is accepted.
     pub fn decision(&self) -> Option<Decision>
         ensures { result ≡ decision_seen self.now }
     {
@@ -109,7 +111,7 @@ impl<'a> PaperFacts<'a> {
         self.decision
     }
 
-    /// Its last title, and none where there is no such paper.
+    /// Returns its last title, or `None` if there is no such paper.
     pub fn title(&self) -> Option<&'a Text>
         ensures { option_copied result ≡ title_seen self.now }
     {
@@ -119,7 +121,7 @@ impl<'a> PaperFacts<'a> {
         }
     }
 
-    /// Its last abstract, and none where there is no such paper.
+    /// Returns its last abstract, or `None` if there is no such paper.
     fn abstract_text(&self) -> Option<&'a Text>
         ensures { option_copied result ≡ abstract_seen self.now }
     {
@@ -132,7 +134,7 @@ impl<'a> PaperFacts<'a> {
 
 /// What the caller is told of them.
 impl<'a> PaperFacts<'a> {
-    /// The title, where it is told.
+    /// Returns the title, if it is told.
     pub fn title_told(&self) -> Option<&'a Text>
         ensures { option_copied result ≡ where_told (gets_title self.now.by (accepted_seen self.now))
             (title_seen self.now) }
@@ -143,7 +145,7 @@ impl<'a> PaperFacts<'a> {
         self.title()
     }
 
-    /// The abstract, where it is told.
+    /// Returns the abstract, if it is told.
     pub fn abstract_told(&self) -> Option<&'a Text>
         ensures { option_copied result ≡ where_told (gets_abstract self.now.by (accepted_seen self.now))
             (abstract_seen self.now) }
@@ -154,7 +156,7 @@ impl<'a> PaperFacts<'a> {
         self.abstract_text()
     }
 
-    /// What was decided of the paper, where it is told.
+    /// Returns what was decided of the paper, if it is told.
     pub fn decision_told(&self) -> Option<Option<Decision>>
         ensures { result ≡ where_told (gets_decision self.now.by (accepted_seen self.now))
             (Some (decision_seen self.now)) }
@@ -165,21 +167,21 @@ impl<'a> PaperFacts<'a> {
         Some(self.decision())
     }
 
-    /// Whether the paper is withdrawn, where that is told.
+    /// Returns whether the paper is withdrawn, if that is told.
     pub fn withdrawal_told(&self) -> Option<bool>
         ensures { result ≡ where_told (gets_withdrawn self.now.by) (Some (withdrawn_seen self.now)) }
     {
         withdrawn_told(&self.by, self.is_withdrawn())
     }
 
-    /// Whether she is in conflict with it, where that is told.
+    /// Returns whether the user is in conflict with it, if that is told.
     pub(crate) fn conflict_told(&self) -> Option<bool>
         ensures { result ≡ where_told (gets_conflict self.now.by) (Some self.now.by.conflicted) }
     {
         conflict_told(&self.by)
     }
 
-    /// The ordinal of her label, where she is told it.
+    /// Returns the ordinal of their label, if the user is told it.
     pub fn label_told(&self) -> Option<Ordinal>
         ensures { result ≡ where_told (gets_label self.now.by) self.now.label }
     {
@@ -192,8 +194,9 @@ impl<'a> PaperFacts<'a> {
 
 /// How they are read.
 impl Live {
-    /// What a user, or nobody, is to the paper: a step for each of its authors and its seats at most, and those of a
-    /// search among the users declared in conflict with it, and of one among those invited to it.
+    /// Returns what a user, or an unauthenticated caller, is to the paper: a step for each of its authors and its
+    /// seats at most, and those of a search among the users declared in conflict with it, and of one among those
+    /// invited to it.
     fn tie_to<L: Ledger>(
         &self,
         user: &Option<UserNo>,
@@ -214,7 +217,7 @@ impl Live {
         }
     }
 
-    /// What a user is to the paper.
+    /// Returns what a user is to the paper.
     fn tie_of<L: Ledger>(&self, user: UserNo, paper: PaperNo, steps: &mut Steps<L>) -> PaperTie
         ensures tie { result ≡ tie_at self.now.tables (Some user) paper }
         ensures steps { TakesAtMost (tie_reads self.now.tables paper) steps.old steps.new }
@@ -232,7 +235,12 @@ impl Live {
         }
     }
 
-    /// What a user, or nobody, is to the conference, and to a paper to which she has this tie. Two steps.
+    /// Returns what a user, or an unauthenticated caller, is to the conference, and to a paper to which the user has
+    /// this tie.
+    ///
+    /// # Cost
+    ///
+    /// Two steps.
     fn stance<L: Ledger>(
         &self,
         user: &Option<UserNo>,
@@ -255,9 +263,13 @@ impl Live {
         }
     }
 
-    /// What is asked of the paper for a user, or nobody, of whom it tells the same where there is no such paper. It is
-    /// found by number: a step for each of its authors and its seats at most, those of a search among the users
-    /// declared in conflict with it, of one among those invited to it, and four; takes no memory.
+    /// Returns the facts of the paper for a user, or an unauthenticated caller; they don't depend on the number if
+    /// there is no such paper.
+    ///
+    /// # Cost
+    ///
+    /// Takes no memory. Found by number: a step for each of its authors and its seats at most, those of a search among
+    /// the users declared in conflict with it, of one among those invited to it, and four.
     pub fn facts<L: Ledger>(
         &self,
         user: &Option<UserNo>,
@@ -280,9 +292,13 @@ impl Live {
         }
     }
 
-    /// What a user, or nobody, is to the conference and to a paper, where one is named. A caller who is nobody is an
-    /// `Account` without ties. Takes no memory; of the paper it reads the authors, the seats and, by a search each, who
-    /// is declared in conflict with it and who is invited to it.
+    /// Returns the standing of a user, or an unauthenticated caller, at the conference and at a paper, if one is
+    /// named. An unauthenticated caller is an `Account` without ties.
+    ///
+    /// # Cost
+    ///
+    /// Takes no memory. Of the paper it reads the authors, the seats and, by a search each, the conflicts and the
+    /// invitations.
     pub fn standing(&self, user: &Option<UserNo>, paper: &Option<PaperNo>) -> Standing
         ensures { result ≡ standing_at self.now.tables user.now paper.now }
     {
@@ -291,7 +307,7 @@ impl Live {
         self.stance(user, &tie, steps)
     }
 
-    /// What a user, or nobody, is to a paper, where one is named; nothing where none is.
+    /// Returns what a user, or an unauthenticated caller, is to a paper, where one is named; nothing where none is.
     fn tie_where(
         &self,
         user: &Option<UserNo>,

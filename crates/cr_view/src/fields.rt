@@ -30,7 +30,11 @@ use cr_reviews::Labels;
 
 /// How many papers there are.
 impl Live {
-    /// The number of papers, which are numbered from 1. Reads no paper.
+    /// Returns the number of papers, which are numbered from 1.
+    ///
+    /// # Cost
+    ///
+    /// Reads no paper.
     pub fn paper_count(&self) -> u64
         ensures count { result ≡ paper_count self.now.tables.papers }
         ensures few { result ≤ 9999 }
@@ -41,7 +45,11 @@ impl Live {
 
 /// What was uploaded.
 impl Live {
-    /// Whether a version is told of, as there is where there is a content. One read.
+    /// Returns whether a version is told of, as there is where there is a content.
+    ///
+    /// # Cost
+    ///
+    /// One read.
     pub fn tells_version(&self, facts: &PaperFacts<'_>) -> bool
         ensures { result ≡ tells_some (where_told (gets_versions facts.now.by (accepted_seen facts.now))
             (Some (versions_at self.now.tables facts.now.by.author facts.now.paper))) }
@@ -54,9 +62,9 @@ impl Live {
     }
 }
 
-/// Who wrote it, who reviews it, and its tags.
+/// Its authors, its reviewers and its tags.
 impl Live {
-    /// The authors' ties, where their names are told, and else none; `name_of` tells each name. They are found by
+    /// Returns the authors' ties, if their names are told, and else none; `name_of` tells each name. They are found by
     /// number.
     pub fn authors_told(&self, facts: &PaperFacts<'_>) -> &[Tie<()>]
         ensures { names_of self.now.tables result.now
@@ -68,8 +76,8 @@ impl Live {
         self.ties.authors(facts.paper(), &mut Steps::uncounted())
     }
 
-    /// The seats of all who were ever assigned, where reviewers' names are told, and else none; `reviewer_name` tells
-    /// each name. They are found by number.
+    /// Returns the seats of all who were ever assigned, where reviewers' names are told, and else none;
+    /// `reviewer_name` tells each name. They are found by number.
     pub fn seats_told(&self, facts: &PaperFacts<'_>) -> &[Tie<Seat>]
         ensures { result.now ≡ (if shows_reviewer facts.now.by
             then ties_of ByPaper facts.now.paper self.now.tables.seats else []) }
@@ -80,7 +88,11 @@ impl Live {
         self.seats.seats(facts.paper(), &mut Steps::uncounted())
     }
 
-    /// Whether the user is told that the tag is on. A walk over the paper's tags up to it.
+    /// Returns whether the user is told that the tag is on.
+    ///
+    /// # Cost
+    ///
+    /// A walk over the paper's tags up to it.
     pub fn tells_tag(&self, user: UserNo, facts: &PaperFacts<'_>, tag: &Tag) -> bool
         ensures { result ≡ has_tag tag.now (where_told (gets_tags facts.now.by)
             (Some (tags_in self.now.tables.tags (Some user) (is_chair facts.now.by.role) facts.now.paper))) }
@@ -96,10 +108,14 @@ impl Live {
     }
 }
 
-/// Whether its reviews, its comments and its response tell anything.
+/// Its reviews, its comments and its response, as far as they tell anything.
 impl Live {
-    /// Whether the user of whom this is asked is answered a review, where she asks for them: no rule is in the way,
-    /// and there is one for her. A walk over the paper's forms.
+    /// Returns whether the user with these facts is answered a review, if they ask for them: no rule forbids it, and
+    /// there is one for the user.
+    ///
+    /// # Cost
+    ///
+    /// A walk over the paper's forms.
     pub fn tells_review(&self, user: &Option<UserNo>, facts: &PaperFacts<'_>) -> bool
         requires { facts.now ≡ paper_seen_at self.now.tables user.now facts.now.paper }
         ensures { result ≡ not (is_nothing
@@ -112,7 +128,7 @@ impl Live {
         }
     }
 
-    /// Whether there is a review for her, where no rule is in the way.
+    /// Returns whether there is a review for the user, where no rule is in the way.
     fn has_review(&self, user: &Option<UserNo>, facts: &PaperFacts<'_>) -> bool
         requires { facts.now ≡ paper_seen_at self.now.tables user.now facts.now.paper }
         ensures { result ≡ not (is_nothing
@@ -133,14 +149,14 @@ impl Live {
         }
     }
 
-    /// Whether there is a form under some label.
+    /// Returns whether there is a form under some label.
     fn has_any_form(&self, paper: PaperNo) -> bool
         ensures { result ≡ some_label (is_written_in self.now.tables.reviews paper) 26 }
     {
         has_some(&self.reviews.labels(paper, &mut Steps::uncounted()))
     }
 
-    /// Whether the response was opened, and there is a form under some label that was written before it.
+    /// Returns whether the response was opened, and there is a form under some label that was written before it.
     fn has_early_form(&self, paper: PaperNo) -> bool
         ensures { result ≡ some_label
             (λ o. is_some (early_form_in self.now.tables.stage.had_response self.now.tables.reviews paper o)) 26 }
@@ -152,7 +168,11 @@ impl Live {
         has_some(&self.reviews.labels_before(paper, Phase::Response, steps))
     }
 
-    /// Whether she is answered a comment, where she asks for them. Reads none.
+    /// Returns whether the user is answered a comment, if the user asks for them.
+    ///
+    /// # Cost
+    ///
+    /// Reads none.
     pub fn tells_comment(&self, facts: &PaperFacts<'_>) -> bool
         ensures { result ≡ not (is_nothing (comments_told self.now.tables facts.now.by facts.now.paper)) }
     {
@@ -165,7 +185,11 @@ impl Live {
         }
     }
 
-    /// Whether she is answered what its authors responded, where she asks for it. One read by number.
+    /// Returns whether the user is answered what its authors responded, if the user asks for it.
+    ///
+    /// # Cost
+    ///
+    /// One read by number.
     pub fn tells_response(&self, facts: &PaperFacts<'_>) -> bool
         ensures { result ≡ response_told self.now.tables facts.now.by facts.now.paper }
     {
@@ -175,7 +199,7 @@ impl Live {
     }
 }
 
-/// Whether one of the labels is among these.
+/// Returns whether one of the labels is among these.
 fn has_some(labels: &Labels) -> bool
     ensures { result ≡ some_label (has_label labels.now) 26 }
 {

@@ -4,7 +4,11 @@ ghost use Rattle.cr_base.specs.Lists.{listed};
 
 use std::alloc::AllocError;
 
-/// Adds a value, where there is one; an error only for lack of memory.
+/// Adds a value, where there is one.
+///
+/// # Errors
+///
+/// If memory runs out.
 pub(crate) fn push_some<T: Drop>(items: &mut Vec<T>, item: Option<T>) -> Result<(), AllocError>
     ensures { OnOk result (items.new.items ≡ items.old.items ++ listed item) }
 {

@@ -24,7 +24,9 @@ use std::marker::Model;
 
 /// All tables of a history.
 ///
-/// Contracts see the tables, and for how many more accounts there is room, and values of each paper and each user.
+/// # Model
+///
+/// The tables, and for how many more accounts there is room, and values of each paper and each user.
 pub struct Live {
     pub(crate) stage: Stage,
     pub(crate) accounts: Accounts,
@@ -95,7 +97,11 @@ impl Model for Live {
 
 /// The tables and their entries.
 impl Live {
-    /// The tables of the empty history; takes no memory.
+    /// Returns the tables of the empty history.
+    ///
+    /// # Cost
+    ///
+    /// Takes no memory.
     pub fn new(alloc: Global) -> Live
         ensures { result.tables ≡ no_tables }
     {
@@ -112,8 +118,11 @@ impl Live {
         }
     }
 
-    /// Takes the memory that the entries of one command need; an error only for lack of memory,
-    /// and the tables are the same either way.
+    /// Takes the memory that the entries of one command need. The tables don't change.
+    ///
+    /// # Errors
+    ///
+    /// If memory runs out.
     pub fn room(&mut self, group: &[Stamped]) -> Result<(), AllocError>
         ensures ok { OnOk result (RoomFor group.now self.new.rooms) }
         ensures same { self.new.tables ≡ self.old.tables }
@@ -129,8 +138,12 @@ impl Live {
         self.decisions.room(group)
     }
 
-    /// One more entry, for which there is room. It is taken whole, since one table keeps its texts or its
-    /// content: that of papers, of reviews, or of comments and responses. Takes no memory.
+    /// Applies one more entry, for which there is room. It is taken whole, since one table keeps its texts or its
+    /// content: that of papers, of reviews, or of comments and responses.
+    ///
+    /// # Cost
+    ///
+    /// Takes no memory.
     pub fn apply(&mut self, stamped: Stamped)
         requires room { RoomFor (stamped ∷ []) self.old.rooms }
         requires fits { Fits self.old.tables stamped }
@@ -150,7 +163,11 @@ impl Live {
         }
     }
 
-    /// The entries of one command, for which there is room; takes no memory.
+    /// Applies the entries of one command, for which there is room.
+    ///
+    /// # Cost
+    ///
+    /// Takes no memory.
     pub fn apply_all(&mut self, group: Vec<Stamped>)
         requires room { RoomFor group.items self.old.rooms }
         requires fits { FitInTurn self.old.tables group.items }
@@ -163,31 +180,44 @@ impl Live {
     }
 }
 
-/// Who asks.
+/// The callers.
 impl Live {
-    /// The user who registered a name, and none where nobody did. One look-up by name.
+    /// Returns the user who registered a name, or `None` if no user did.
+    ///
+    /// # Cost
+    ///
+    /// One look-up by name.
     pub fn number_of(&self, name: &Short) -> Option<UserNo>
         ensures { result ≡ number_at self.now.tables.accounts name.now }
     {
         self.accounts.number_of(name)
     }
 
-    /// The name of a user, and none where nobody has that number. One read by number.
+    /// Returns the name of a user, or `None` if no user has that number.
+    ///
+    /// # Cost
+    ///
+    /// One read by number.
     pub fn name_of(&self, user: UserNo) -> Option<Short>
         ensures { result ≡ option_map (λ a. a.name) (account_at self.now.tables.accounts user) }
     {
         self.accounts.name_of(user)
     }
 
-    /// The user who registered a name with this digest of a secret, and none where nobody did: no
-    /// such name, or another digest. One look-up by name, and one read by number.
+    /// Returns the user who registered a name with this digest of a secret, or `None` if no user did: no such name, or
+    /// another digest.
+    ///
+    /// # Cost
+    ///
+    /// One look-up by name, and one read by number.
     pub fn caller(&self, name: &Short, digest: &Digest) -> Option<UserNo>
         ensures { result ≡ caller_at self.now.tables.accounts name.now digest.now }
     {
         self.accounts.caller(name, digest)
     }
 
-    /// Whether the user is an author of the paper; false for nobody, and where no paper is named.
+    /// Returns whether the user is an author of the paper; false for an unauthenticated caller, and if no paper is
+    /// named.
     pub fn is_author(&self, user: &Option<UserNo>, paper: &Option<PaperNo>) -> bool
         ensures { result ≡ at_some (is_author_in self.now.tables.ties user.now) paper.now }
     {
@@ -211,37 +241,37 @@ impl Live {
     }
 }
 
-/// The tables, lent to whoever judges by them.
+/// The tables, lent to a user who judges by them.
 impl Live {
-    /// The table of the phase, the mode and the deadlines.
+    /// Returns the table of the phase, the mode and the deadlines.
     pub fn stage_table(&self) -> &Stage
         ensures { result.now ≡ self.now.tables.stage }
     {
         &self.stage
     }
 
-    /// The table of accounts.
+    /// Returns the table of accounts.
     pub fn account_table(&self) -> &Accounts
         ensures { result.now.accounts ≡ self.now.tables.accounts }
     {
         &self.accounts
     }
 
-    /// The table of papers.
+    /// Returns the table of papers.
     pub fn paper_table(&self) -> &Papers
         ensures { result.now.papers ≡ self.now.tables.papers }
     {
         &self.papers
     }
 
-    /// The table of authors, conflicts and bids.
+    /// Returns the table of authors, conflicts and bids.
     pub fn tie_table(&self) -> &Ties
         ensures { result.now.ties ≡ self.now.tables.ties }
     {
         &self.ties
     }
 
-    /// The table of who reviews which paper, and who is invited to.
+    /// Returns the table of who reviews which paper, and who is invited to.
     pub fn seat_table(&self) -> &Seats
         ensures seats { result.now.seats ≡ self.now.tables.seats }
         ensures invites { result.now.invites ≡ self.now.tables.invites }
@@ -249,28 +279,28 @@ impl Live {
         &self.seats
     }
 
-    /// The table of reviews.
+    /// Returns the table of reviews.
     pub fn review_table(&self) -> &Reviews
         ensures { result.now.reviews ≡ self.now.tables.reviews }
     {
         &self.reviews
     }
 
-    /// The table of comments, and of what authors respond.
+    /// Returns the table of comments, and of what authors respond.
     pub fn comment_table(&self) -> &Talk
         ensures { result.now.talk ≡ self.now.tables.talk }
     {
         &self.talk
     }
 
-    /// The table of tags.
+    /// Returns the table of tags.
     pub fn tag_table(&self) -> &Tags
         ensures { result.now.tags ≡ self.now.tables.tags }
     {
         &self.tags
     }
 
-    /// The table of decisions.
+    /// Returns the table of decisions.
     pub fn decision_table(&self) -> &Decisions
         ensures { result.now.decisions ≡ self.now.tables.decisions }
     {

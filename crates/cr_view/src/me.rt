@@ -13,9 +13,13 @@ use cr_base::{Me, PaperNo, PaperNos, Short, Steps, Tie, UserNo};
 use std::alloc::{AllocError, Global};
 
 impl Live {
-    /// What a user is told of herself; an error only for lack of memory. A few look-ups by number, and
-    /// a walk over her own papers, over those with which she is declared in conflict, each of which costs one over its
-    /// authors, over those that she reviews and over those to which she is invited.
+    /// Returns what a user is told of themselves. A few look-ups by number, and a walk over their own papers, over
+    /// those with which the user is declared in conflict, each of which costs one over its authors, over those that
+    /// the user reviews and over those to which the user is invited.
+    ///
+    /// # Errors
+    ///
+    /// If memory runs out.
     pub fn me(&self, alloc: Global, user: UserNo) -> Result<Me, AllocError>
         ensures { IfOk result (λ me. me ≡ me_by (facts_of_tables self.now.tables (Some user)) user) }
     {
@@ -41,7 +45,8 @@ impl Live {
         })
     }
 
-    /// The papers of which the user is an external: none of a member's, else those to which she is invited.
+    /// Returns the papers of which the user is an external: none of a member's, else those to which the user is
+    /// invited.
     fn invited(&self, alloc: Global, user: UserNo) -> Result<PaperNos, AllocError>
         ensures { IfOk result (λ papers. papers
             ≡ filter (λ p. is_external_in self.now.tables (Some user) p) (paper_numbers self.now.tables.papers)) }
@@ -56,7 +61,7 @@ impl Live {
         Ok(papers)
     }
 
-    /// Her name; no bytes where nobody has that number.
+    /// Returns the user's name; no bytes if no user has that number.
     fn own_name(&self, user: UserNo) -> Short
         ensures { result ≡ unwrap_or (option_map (λ a. a.name) (account_at self.now.tables.accounts user)) [] }
     {
@@ -66,7 +71,7 @@ impl Live {
         }
     }
 
-    /// The papers of these ties, without those whose author the user is.
+    /// Returns the papers of these ties, without those whose author the user is.
     fn others(&self, alloc: Global, user: UserNo, ties: &[Tie<()>]) -> Result<PaperNos, AllocError>
         ensures { IfOk result (λ papers. papers
             ≡ filter (λ paper. not (is_author_in self.now.tables.ties (Some user) paper))
@@ -83,7 +88,11 @@ impl Live {
     }
 }
 
-/// Adds a paper, where it is told; an error only for lack of memory.
+/// Adds a paper, if it is told.
+///
+/// # Errors
+///
+/// If memory runs out.
 fn push_where(papers: &mut Vec<PaperNo>, told: bool, paper: PaperNo) -> Result<(), AllocError>
     ensures { OnOk result (papers.new.items ≡ papers.old.items ++ given told paper) }
 {
@@ -93,7 +102,11 @@ fn push_where(papers: &mut Vec<PaperNo>, told: bool, paper: PaperNo) -> Result<(
     Ok(())
 }
 
-/// The papers of these ties; an error only for lack of memory.
+/// Returns the papers of these ties.
+///
+/// # Errors
+///
+/// If memory runs out.
 fn papers_of<V>(alloc: Global, ties: &[Tie<V>]) -> Result<PaperNos, AllocError>
     ensures { IfOk result (λ papers. papers ≡ map (λ tie. tie.pair.paper) ties.now) }
 {

@@ -11,7 +11,7 @@ use cr_anonymity::shows_reviewer;
 use cr_base::{Kind, Standing, Text, Versions};
 use std::alloc::{AllocError, Global};
 
-/// Whether she is told the title: authors; from bidding on members, and externals who aren't in conflict; everyone
+/// Returns whether the user is told the title: authors; from bidding on members, and unconflicted externals; everyone
 /// where the paper is accepted.
 pub(crate) fn gets_title(by: &Standing, accepted: bool) -> bool
     ensures { result ≡ gets_title by.now accepted }
@@ -22,22 +22,22 @@ pub(crate) fn gets_title(by: &Standing, accepted: bool) -> bool
         || accepted
 }
 
-/// Whether she is told the abstract: authors; from bidding on members and externals who aren't in conflict; everyone
-/// where the paper is published.
+/// Returns whether the user is told the abstract: authors; from bidding on members and unconflicted externals;
+/// everyone where the paper is published.
 pub(crate) fn gets_abstract(by: &Standing, accepted: bool) -> bool
     ensures { result ≡ gets_abstract by.now accepted }
 {
     by.author || (by.reads_paper() && by.phase.members_see_papers()) || by.phase.publishes(accepted)
 }
 
-/// Whether she is told if she is in conflict: members, externals and authors.
+/// Returns whether the user is told if the user is in conflict: members, externals and authors.
 fn gets_conflict(by: &Standing) -> bool
     ensures { result ≡ gets_conflict by.now }
 {
     by.is_admitted() || by.author
 }
 
-/// Whether she is in conflict with the paper, where she is told that.
+/// Returns whether the user is in conflict with the paper, if the user is told that.
 pub(crate) fn conflict_told(by: &Standing) -> Option<bool>
     ensures { result ≡ where_told (gets_conflict by.now) (Some by.now.conflicted) }
 {
@@ -48,31 +48,30 @@ pub(crate) fn conflict_told(by: &Standing) -> Option<bool>
     }
 }
 
-/// Whether she is told who is declared in conflict with the paper: from bidding on chairs who aren't
-/// in conflict.
+/// Returns whether the user is told who is declared in conflict with the paper: from bidding on unconflicted chairs.
 pub(crate) fn gets_conflicts(by: &Standing) -> bool
     ensures { result ≡ gets_conflicts by.now }
 {
     by.is_clear_chair() && by.phase.chairs_see_conflicts()
 }
 
-/// Whether she is told whom the authors declared: authors.
+/// Returns whether the user is told the users that the authors declared: authors are.
 pub(crate) fn gets_declared(by: &Standing) -> bool
     ensures { result ≡ gets_declared by.now }
 {
     by.author
 }
 
-/// Whether she is told the versions: authors; from bidding on members and externals who aren't in conflict; everyone
-/// where the paper is published.
+/// Returns whether the user is told the versions: authors; from bidding on members and unconflicted externals;
+/// everyone where the paper is published.
 pub(crate) fn gets_versions(by: &Standing, accepted: bool) -> bool
     ensures { result ≡ gets_versions by.now accepted }
 {
     by.author || (by.reads_paper() && by.phase.members_see_papers()) || by.phase.publishes(accepted)
 }
 
-/// Whether she is told if the paper is withdrawn: authors; from bidding on members, and externals who aren't in
-/// conflict.
+/// Returns whether the user is told if the paper is withdrawn: authors; from bidding on members, and unconflicted
+/// externals.
 fn gets_withdrawn(by: &Standing) -> bool
     ensures { result ≡ gets_withdrawn by.now }
 {
@@ -81,7 +80,7 @@ fn gets_withdrawn(by: &Standing) -> bool
         || (by.is_clear_external() && by.phase.members_see_papers())
 }
 
-/// Whether the paper is withdrawn, where she is told that.
+/// Returns whether the paper is withdrawn, if the user is told that.
 pub(crate) fn withdrawn_told(by: &Standing, withdrawn: bool) -> Option<bool>
     ensures { result ≡ where_told (gets_withdrawn by.now) (Some withdrawn) }
 {
@@ -92,43 +91,44 @@ pub(crate) fn withdrawn_told(by: &Standing, withdrawn: bool) -> Option<bool>
     }
 }
 
-/// Whether she is told her own bid: from bidding on members who aren't in conflict.
+/// Returns whether the user is told their own bid: from bidding on unconflicted members.
 pub(crate) fn gets_bid(by: &Standing) -> bool
     ensures { result ≡ gets_bid by.now }
 {
     by.is_clear_member() && by.phase.members_see_own_bids()
 }
 
-/// Whether she is told all bids: from bidding on chairs who aren't in conflict.
+/// Returns whether the user is told all bids: from bidding on unconflicted chairs.
 pub(crate) fn gets_bids(by: &Standing) -> bool
     ensures { result ≡ gets_bids by.now }
 {
     by.is_clear_chair() && by.phase.chairs_see_bids()
 }
 
-/// Whether she is told her own label: reviewers of the paper who are members or externals and not in conflict.
+/// Returns whether the user is told their own label: reviewers of the paper who are members or externals and not in
+/// conflict.
 pub(crate) fn gets_label(by: &Standing) -> bool
     ensures { result ≡ gets_label by.now }
 {
     by.reads_paper() && by.reviewer
 }
 
-/// Whether she is told who reviews, each by her label at least: whoever is shown their names, and from
-/// discussion on members who aren't in conflict.
+/// Returns whether the user is told who reviews, each by their label at least: a user who is shown their names, and
+/// from discussion on unconflicted members.
 pub(crate) fn gets_reviewers(by: &Standing) -> bool
     ensures { result ≡ gets_reviewers by.now }
 {
     shows_reviewer(by) || (by.is_clear_member() && by.phase.members_see_reviewers())
 }
 
-/// Whether she is told the tags: from bidding on members who aren't in conflict.
+/// Returns whether the user is told the tags: from bidding on unconflicted members.
 pub(crate) fn gets_tags(by: &Standing) -> bool
     ensures { result ≡ gets_tags by.now }
 {
     by.is_clear_member() && by.phase.committee_sees_tags()
 }
 
-/// Whether a reviewer has written a review, where she is told that: chairs who aren't in conflict.
+/// Returns whether a reviewer has written a review, if the user is told that: unconflicted chairs.
 pub(crate) fn done_told(by: &Standing, written: bool) -> Option<bool>
     ensures { result ≡ where_told (is_clear_chair by.now) (Some written) }
 {
@@ -139,7 +139,7 @@ pub(crate) fn done_told(by: &Standing, written: bool) -> Option<bool>
     }
 }
 
-/// What a reviewer is to the paper, where she is told that: members who aren't in conflict.
+/// Returns what a reviewer is to the paper, if the user is told that: unconflicted members.
 pub(crate) fn kind_told(by: &Standing, kind: Kind) -> Option<Kind>
     ensures { result ≡ where_told (is_clear_member by.now) (Some kind) }
 {
@@ -150,7 +150,7 @@ pub(crate) fn kind_told(by: &Standing, kind: Kind) -> Option<Kind>
     }
 }
 
-/// Whether she is told the decision: from discussion on members who aren't in conflict; from notification on
+/// Returns whether the user is told the decision: from discussion on unconflicted members; from notification on
 /// authors; everyone where the paper is accepted.
 pub(crate) fn gets_decision(by: &Standing, accepted: bool) -> bool
     ensures { result ≡ gets_decision by.now accepted }
@@ -160,7 +160,11 @@ pub(crate) fn gets_decision(by: &Standing, accepted: bool) -> bool
         || accepted
 }
 
-/// The text, shared, where it is told; an error only for lack of memory.
+/// Returns the text, shared, if it is told.
+///
+/// # Errors
+///
+/// If memory runs out.
 pub(crate) fn shared_where(told: bool, text: Option<&Text>) -> Result<Option<Text>, AllocError>
     ensures { IfOk result (λ copied. copied ≡ where_told told (option_copied text.entry)) }
 {
@@ -170,7 +174,11 @@ pub(crate) fn shared_where(told: bool, text: Option<&Text>) -> Result<Option<Tex
     shared(text)
 }
 
-/// The text, shared, where there is one; an error only for lack of memory.
+/// Returns the text, shared, where there is one.
+///
+/// # Errors
+///
+/// If memory runs out.
 pub(crate) fn shared(text: Option<&Text>) -> Result<Option<Text>, AllocError>
     ensures { IfOk result (λ copied. copied ≡ option_copied text.entry) }
 {
@@ -180,7 +188,11 @@ pub(crate) fn shared(text: Option<&Text>) -> Result<Option<Text>, AllocError>
     }
 }
 
-/// The last version alone, and none where there is none; an error only for lack of memory.
+/// Returns only the last version, or none if there is none.
+///
+/// # Errors
+///
+/// If memory runs out.
 pub(crate) fn last_alone(alloc: Global, last: Option<u64>) -> Result<Versions, AllocError>
     ensures { IfOk result (λ versions. versions ≡ listed last) }
 {

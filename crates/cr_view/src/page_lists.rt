@@ -40,7 +40,9 @@ impl<'a> Model for SeatsRead<'a> {
 
 /// The lists of a paper that are told, lent by the tables.
 ///
-/// Contracts see whom they name, in their order.
+/// # Model
+///
+/// The users that they name, in their order.
 #[derive(Drop)]
 pub(crate) struct PageLists<'a> {
     pub(crate) authors: Option<&'a [Tie<()>]>,
@@ -71,7 +73,11 @@ impl<'a> Model for PageLists<'a> {
 
 /// How they are read.
 impl Live {
-    /// The lists of the paper that are told: a step for each record that is read. Takes no memory.
+    /// Returns the lists of the paper that are told: a step for each record that is read.
+    ///
+    /// # Cost
+    ///
+    /// Takes no memory.
     pub(crate) fn page_lists<L: Ledger>(
         &self,
         user: &Option<UserNo>,
@@ -99,7 +105,11 @@ impl Live {
         }
     }
 
-    /// The paper's authors, where they are told. A step for each.
+    /// Returns the paper's authors, if they are told.
+    ///
+    /// # Cost
+    ///
+    /// A step for each.
     fn authors_read<L: Ledger>(
         &self,
         facts: &PaperFacts<'_>,
@@ -116,7 +126,11 @@ impl Live {
         Some(self.ties.authors(facts.paper(), steps))
     }
 
-    /// The ties of those who are declared in conflict with the paper, where they are told. A step for each.
+    /// Returns the ties of those who are declared in conflict with the paper, if they are told.
+    ///
+    /// # Cost
+    ///
+    /// A step for each.
     fn conflicts_read<L: Ledger>(
         &self,
         facts: &PaperFacts<'_>,
@@ -134,7 +148,11 @@ impl Live {
         Some(self.ties.conflicts(facts.paper(), steps))
     }
 
-    /// The ties of those whom the paper's authors declared, where they are told. A step for each.
+    /// Returns the ties of the users that the paper's authors declared, if they are told.
+    ///
+    /// # Cost
+    ///
+    /// A step for each.
     fn declared_read<L: Ledger>(
         &self,
         facts: &PaperFacts<'_>,
@@ -152,8 +170,8 @@ impl Live {
         Some(self.ties.declared(facts.paper(), steps))
     }
 
-    /// The user's last bid on the paper, and 0 where she has told none, where she is told it. The steps of a search
-    /// among the paper's bids.
+    /// Returns the user's last bid on the paper, and 0 where the user has told none, if the user is told it. The steps
+    /// of a search among the paper's bids.
     fn bid_read<L: Ledger>(
         &self,
         user: &Option<UserNo>,
@@ -173,7 +191,7 @@ impl Live {
         }
     }
 
-    /// A user's last bid on the paper, and 0 where she has told none.
+    /// Returns a user's last bid on the paper, and 0 where the user has told none.
     pub(crate) fn bid_or_zero<L: Ledger>(
         &self,
         user: UserNo,
@@ -189,7 +207,11 @@ impl Live {
         }
     }
 
-    /// The last bids on the paper, where they are told. A step for each.
+    /// Returns the last bids on the paper, if they are told.
+    ///
+    /// # Cost
+    ///
+    /// A step for each.
     fn bids_read<L: Ledger>(
         &self,
         facts: &PaperFacts<'_>,
@@ -205,8 +227,11 @@ impl Live {
         Some(self.ties.bids(facts.paper(), steps))
     }
 
-    /// The paper's seats, and under which labels there are forms, where its reviewers are told. A step for each seat
-    /// and each form.
+    /// Returns the paper's seats, and under which labels there are forms, if its reviewers are told.
+    ///
+    /// # Cost
+    ///
+    /// A step for each seat and each form.
     fn seats_read<L: Ledger>(
         &self,
         facts: &PaperFacts<'_>,

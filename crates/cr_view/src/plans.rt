@@ -12,8 +12,8 @@ ghost use Rattle.cr_view.specs.Plans.{is_planned_in, one};
 use crate::live::Live;
 use cr_base::{Bid, MOST_LABELS, PaperNo, PerPaper, Rule, Steps, UserNo};
 
-/// Whether a plan of so many papers and members, with so many places for each paper, has more than 512 places, or
-/// papers times members passes 4,096. There are at most 9,999 of each.
+/// Returns whether a plan of so many papers and members, with so many places for each paper, has more than 512 places,
+/// or papers times members passes 4,096. There are at most 9,999 of each.
 fn is_too_large(per_paper: PerPaper, papers: u64, members: u64) -> bool
     requires papers { papers ≤ 9999 }
     requires members { members ≤ 9999 }
@@ -22,7 +22,7 @@ fn is_too_large(per_paper: PerPaper, papers: u64, members: u64) -> bool
     per_paper.number() * papers > 512 || papers * members > 4_096
 }
 
-/// 1 where it is so, and 0 elsewhere.
+/// Returns 1 if it holds, and else 0.
 fn one(holds: bool) -> u64
     ensures { result ≡ one holds }
 {
@@ -32,7 +32,7 @@ fn one(holds: bool) -> u64
     0
 }
 
-/// Whether so many more labels are left, where so many are drawn.
+/// Returns whether so many more labels are left, where so many are drawn.
 fn has_labels_left(drawn: u64, per_paper: PerPaper) -> bool
     requires { drawn ≤ 26 }
     ensures { result ≡ nat_le (drawn + per_paper) 26 }
@@ -40,25 +40,31 @@ fn has_labels_left(drawn: u64, per_paper: PerPaper) -> bool
     drawn + per_paper.number() <= MOST_LABELS
 }
 
-/// Whether a paper is planned that has labels left or not, for a user who is in conflict with it or not.
+/// Returns whether a paper is planned that has labels left or not, for a user who is in conflict with it or not.
 fn is_open_for(conflicted: bool, withdrawn: bool, has_labels: bool) -> bool
     ensures { result ≡ (not conflicted && not withdrawn && has_labels) }
 {
     !conflicted && !withdrawn && has_labels
 }
 
-/// Whether none of these holds.
+/// Returns whether none of these holds.
 fn is_none_of(wrote: bool, declared: bool, reviews: bool) -> bool
     ensures { result ≡ (not wrote && not declared && not reviews) }
 {
     !wrote && !declared && !reviews
 }
 
-/// Whether one may be asked for.
+/// Who may ask for a plan.
 impl Live {
-    /// Whether a user, or nobody, may ask for a plan with so many places for each paper, or the first broken rule:
-    /// `NotChair`, `WrongPhase` and `PlanTooLarge`, but not `NoPlan`, which memory finds. A walk over all papers, and
-    /// one over the accounts.
+    /// Checks whether a user, or an unauthenticated caller, may ask for a plan with so many places for each paper.
+    ///
+    /// # Errors
+    ///
+    /// The first broken rule: `NotChair`, `WrongPhase` and `PlanTooLarge`, but not `NoPlan`, which memory finds.
+    ///
+    /// # Cost
+    ///
+    /// A walk over all papers, and one over the accounts.
     pub fn may_plan(&self, user: &Option<UserNo>, per_paper: PerPaper) -> Result<(), Rule>
         ensures { result ≡ judged (plan_asked (facts_of_tables self.now.tables user.now)
             (shown_in_tables self.now.tables) per_paper) tt }
@@ -76,8 +82,12 @@ impl Live {
         Ok(())
     }
 
-    /// Whether a plan with so many places for each paper is too large for a user, or nobody, to ask for. A walk over
-    /// all papers, of each what `is_planned` costs, and one over the accounts.
+    /// Returns whether a plan with so many places for each paper is too large for a user, or an unauthenticated
+    /// caller, to ask for.
+    ///
+    /// # Cost
+    ///
+    /// A walk over all papers, of each what `is_planned` costs, and one over the accounts.
     fn is_plan_too_large(&self, user: &Option<UserNo>, per_paper: PerPaper) -> bool
         ensures { result ≡ is_too_large per_paper
             (length (planned_papers (facts_of_tables self.now.tables user.now)
@@ -89,7 +99,11 @@ impl Live {
         is_too_large(per_paper, papers, members)
     }
 
-    /// How many papers are planned. A walk over all papers, of each what `is_planned` costs.
+    /// Returns how many papers are planned.
+    ///
+    /// # Cost
+    ///
+    /// A walk over all papers, of each what `is_planned` costs.
     fn planned_count(&self, user: &Option<UserNo>, per_paper: PerPaper) -> u64
         ensures count { result ≡ length (planned_papers (facts_of_tables self.now.tables user.now)
             (shown_in_tables self.now.tables) per_paper) }
@@ -105,7 +119,11 @@ impl Live {
 
 /// What is planned.
 impl Live {
-    /// Whether the user, or nobody, is in conflict with the paper. A walk over its authors, and one look-up.
+    /// Returns whether the user, or an unauthenticated caller, is in conflict with the paper.
+    ///
+    /// # Cost
+    ///
+    /// A walk over its authors, and one look-up.
     fn is_in_conflict(&self, user: &Option<UserNo>, paper: PaperNo) -> bool
         ensures { result ≡ is_conflicted_in self.now.tables.ties user.now paper }
     {
@@ -117,8 +135,12 @@ impl Live {
         }
     }
 
-    /// Whether so many more reviewers of the paper are planned for the user: she is in no conflict with it, it isn't
-    /// withdrawn, and there are labels left for so many. Two reads by number, and what the conflict costs.
+    /// Returns whether so many more reviewers of the paper are planned for the user: the user is unconflicted,
+    /// it isn't withdrawn, and there are labels left for so many.
+    ///
+    /// # Cost
+    ///
+    /// Two reads by number, and what the conflict costs.
     pub fn is_planned(&self, user: &Option<UserNo>, paper: PaperNo, per_paper: PerPaper) -> bool
         ensures { result ≡ is_planned_in self.now.tables user.now per_paper paper }
     {
@@ -128,8 +150,12 @@ impl Live {
         is_open_for(conflicted, withdrawn, has_labels_left(drawn, per_paper))
     }
 
-    /// Whether the user may be assigned to the paper: she is no author of it, isn't declared in conflict with it, and
-    /// doesn't review it. A walk over its authors and one over its seats, and one look-up.
+    /// Returns whether the user may be assigned to the paper: the user is no author of it, isn't declared in conflict
+    /// with it, and doesn't review it.
+    ///
+    /// # Cost
+    ///
+    /// A walk over its authors and one over its seats, and one look-up.
     pub fn is_free_for(&self, paper: PaperNo, user: UserNo) -> bool
         ensures { result ≡ is_free_for (shown_in_tables self.now.tables) paper user }
     {
@@ -139,7 +165,11 @@ impl Live {
         is_none_of(wrote, declared, reviews)
     }
 
-    /// The user's last bid on the paper, 0 where she has told none. One look-up.
+    /// Returns the user's last bid on the paper, 0 where the user has told none.
+    ///
+    /// # Cost
+    ///
+    /// One look-up.
     pub fn bid_by(&self, paper: PaperNo, user: UserNo) -> Bid
         ensures { result ≡ bid_by (shown_in_tables self.now.tables) paper user }
     {

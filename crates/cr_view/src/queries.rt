@@ -33,7 +33,7 @@ use cr_base::{
 use std::alloc::{AllocError, Global};
 use std::sync::ledger::Ledger;
 
-/// The caller of a query that is a user's.
+/// Returns the caller of a query that is a user's.
 fn maker(caller: &Option<UserNo>) -> UserNo
     requires { IsSome caller.now }
     ensures { caller.now ≡ Some result }
@@ -44,7 +44,7 @@ fn maker(caller: &Option<UserNo>) -> UserNo
     }
 }
 
-/// Whether the caller may see the page of a paper of which this is asked.
+/// Returns whether the caller may see the page of a paper of which this is asked.
 fn may_see_page(facts: &PaperFacts<'_>) -> bool
     ensures { result ≡ (is_admitted facts.now.by || facts.now.by.author || accepted_seen facts.now) }
 {
@@ -53,7 +53,11 @@ fn may_see_page(facts: &PaperFacts<'_>) -> bool
 
 /// Who may ask.
 impl Live {
-    /// What is asked of the paper whose page she may see, or the first broken rule.
+    /// Returns what is asked of the paper whose page the user may see.
+    ///
+    /// # Errors
+    ///
+    /// The first broken rule.
     pub(crate) fn page_facts<L: Ledger>(
         &self,
         user: &Option<UserNo>,
@@ -78,7 +82,7 @@ impl Live {
         Ok(facts)
     }
 
-    /// Whether there is such a paper.
+    /// Returns whether there is such a paper.
     pub(crate) fn has_paper(&self, paper: &Option<PaperNo>) -> bool
         ensures { result ≡ has_paper (facts_of_tables self.now.tables None) paper.now }
     {
@@ -111,15 +115,18 @@ impl From<AllocError> for AnswerError {
 
 /// What is answered.
 impl Live {
-    /// What the caller's query is answered, or the first broken rule of its kind; an error for want of
-    /// memory only where no rule is broken, and never where the state of the conference is asked for.
-    /// There is a caller where the query is about herself. A search isn't answered here, see `cr_search_eval`, nor are
-    /// a report and a plan, see `cr_reports` and `cr_plans`. All accounts cost a walk over them; a page a few
-    /// look-ups and one more for each name that is told, whatever the length of the texts, a step for each
-    /// version and each tag that is told, and, where reviewers are told, one for each who was ever assigned, at
-    /// most 26, and a walk over the paper's forms; a content one look-up, whatever its length; the deadlines five
-    /// reads; what she is told of herself, the accepted papers, reviews, response and comments as `me`,
-    /// `accepted`, `reviews_for`, `response_for` and `comments_for` tell it.
+    /// Returns what the caller's query is answered. There is a caller where the query is about themselves. A search
+    /// isn't answered here, see `cr_search_eval`, nor are a report and a plan, see `cr_reports` and `cr_plans`. All
+    /// accounts cost a walk over them; a page a few look-ups and one more for each name that is told, whatever the
+    /// length of the texts, a step for each version and each tag that is told, and, where reviewers are told, one for
+    /// each who was ever assigned, at most 26, and a walk over the paper's forms; a content one look-up, whatever its
+    /// length; the deadlines five reads; what the user is told of themselves, the accepted papers, reviews, response
+    /// and comments as `me`, `accepted`, `reviews_for`, `response_for` and `comments_for` tell it.
+    ///
+    /// # Errors
+    ///
+    /// The first broken rule of its kind; an error for lack of memory only if no rule is broken, and never if the
+    /// state of the conference is asked for.
     pub fn answer(
         &self,
         alloc: Global,
@@ -146,15 +153,26 @@ impl Live {
         }
     }
 
-    /// Every account, by user number; an error only for lack of memory. Reads and copies each
-    /// account.
+    /// Returns every account, by user number.
+    ///
+    /// # Errors
+    ///
+    /// If memory runs out.
+    ///
+    /// # Cost
+    ///
+    /// Reads and copies each account.
     pub fn accounts(&self, alloc: Global) -> Result<AccountLines, AllocError>
         ensures { IfOk result (λ lines. lines ≡ lines_of self.now.tables.accounts) }
     {
         self.accounts.lines(alloc)
     }
 
-    /// The phases that have a deadline, in the order of phases, each with it; an error only for lack of memory.
+    /// Returns the phases that have a deadline, in the order of phases, each with it.
+    ///
+    /// # Errors
+    ///
+    /// If memory runs out.
     pub fn deadlines(&self, alloc: Global) -> Result<PhaseDeadlines, AllocError>
         ensures { IfOk result (λ told. told ≡ deadlines_told (deadline_in self.now.tables.stage.deadlines)) }
     {
@@ -167,7 +185,11 @@ impl Live {
         Ok(PhaseDeadlines::from_vec(told))
     }
 
-    /// Adds the phase with its deadline, where it has one; an error only for lack of memory.
+    /// Adds the phase with its deadline, if it has one.
+    ///
+    /// # Errors
+    ///
+    /// If memory runs out.
     fn push_deadline(&self, told: &mut Vec<PhaseDeadline>, phase: Phase) -> Result<(), AllocError>
         ensures { OnOk result (told.new.items ≡ told.old.items
             ++ listed (option_map (phase_deadline phase) (deadline_in self.now.tables.stage.deadlines phase))) }
@@ -178,7 +200,11 @@ impl Live {
         Ok(())
     }
 
-    /// The phase, the mode and the number of papers. Takes no memory and reads no account.
+    /// Returns the phase, the mode and the number of papers.
+    ///
+    /// # Cost
+    ///
+    /// Takes no memory and reads no account.
     pub fn conference(&self) -> Conference
         ensures { result ≡ conference_at self.now.tables }
     {
@@ -189,11 +215,15 @@ impl Live {
         }
     }
 
-    /// The page of a paper as a user, or nobody, may see it, or the first broken rule: `NoPaper` where there is no such
-    /// paper, else `NotMember` where she is neither a member of the committee nor an external or an author of the
-    /// paper, and it isn't accepted. An error for lack of memory only where no rule is broken. Shares the texts that
-    /// are told, and no others. The paper is found by number. The steps are at most twice as many as there are entries
-    /// on it, and 16, whatever else is kept; of what is told by name a look-up each.
+    /// Returns the page of a paper as a user, or an unauthenticated caller, may see it. Fails for lack of memory only
+    /// if no rule is broken. Shares the texts that are told, and no others. The paper is found by number. The steps
+    /// are at most twice as many as there are entries on it, and 16, whatever else is kept; of what is told by name a
+    /// look-up each.
+    ///
+    /// # Errors
+    ///
+    /// The first broken rule: `NoPaper` if there is no such paper, else `NotMember` if the user is neither a member of
+    /// the committee nor an external or an author of the paper, and it isn't accepted.
     pub fn show<L: Ledger>(
         &self,
         alloc: Global,
@@ -211,7 +241,7 @@ impl Live {
         Ok(self.page(alloc, user, &facts, steps)?)
     }
 
-    /// The same as a reply, whose steps nobody counts.
+    /// Returns this as a reply, whose steps aren't counted.
     fn page_reply(
         &self,
         alloc: Global,
@@ -226,7 +256,8 @@ impl Live {
         }
     }
 
-    /// What a user, or nobody, is told of a paper of which this is asked; members of the committee are users.
+    /// Returns what a user, or an unauthenticated caller, is told of a paper of which this is asked; members of the
+    /// committee are users.
     fn page<L: Ledger>(
         &self,
         alloc: Global,
@@ -244,7 +275,7 @@ impl Live {
         self.page_of(alloc, facts, &lists, versions, tags)
     }
 
-    /// The page of a paper of which this is asked, with these lists of it.
+    /// Returns the page of a paper of which this is asked, with these lists of it.
     fn page_of(
         &self,
         alloc: Global,
@@ -281,7 +312,11 @@ impl Live {
         })
     }
 
-    /// The versions that she is told: all to authors, a step for each, the last alone to others.
+    /// Returns the versions that the user is told: all to authors, only the last to others.
+    ///
+    /// # Cost
+    ///
+    /// A step for each.
     fn versions_told<L: Ledger>(
         &self,
         alloc: Global,
@@ -304,7 +339,11 @@ impl Live {
         Ok(Some(last_alone(alloc, last)?))
     }
 
-    /// The tags that are on and for her, where she is told them. A step for each of the paper's tags.
+    /// Returns the tags that are on and for the user, if the user is told them.
+    ///
+    /// # Cost
+    ///
+    /// A step for each of the paper's tags.
     fn tags_told<L: Ledger>(
         &self,
         alloc: Global,
@@ -330,7 +369,7 @@ impl Live {
 
 /// The names of those who are tied to a paper.
 impl Live {
-    /// The names of the users of these ties, where they are told.
+    /// Returns the names of the users of these ties, if they are told.
     fn names_told(
         &self,
         alloc: Global,
@@ -344,7 +383,7 @@ impl Live {
         }
     }
 
-    /// The names of the users of these ties, without those whom nobody knows.
+    /// Returns the names of the users of these ties, without those that no account has.
     pub(crate) fn names(&self, alloc: Global, ties: &[Tie<()>]) -> Result<Names, AllocError>
         ensures { IfOk result (λ names. names ≡ names_of self.now.tables ties.now) }
     {

@@ -19,8 +19,12 @@ use cr_base::{
 };
 use cr_reviews::Labels;
 
-/// Whether one who stands so may have a report that members have, who see by now what it tells or don't, or the
-/// first broken rule.
+/// Checks whether a caller with this standing may have a report for members; `seen` says whether members see by now
+/// what it tells.
+///
+/// # Errors
+///
+/// The first broken rule.
 fn members_report(by: &Standing, seen: bool) -> Result<(), Rule>
     ensures { result ≡ judged (members_report by.now seen) tt }
 {
@@ -33,7 +37,12 @@ fn members_report(by: &Standing, seen: bool) -> Result<(), Rule>
     Ok(())
 }
 
-/// The same of a report that chairs have.
+/// Checks whether a caller with this standing may have a report for chairs; `seen` says whether they see by now what
+/// it tells.
+///
+/// # Errors
+///
+/// The first broken rule.
 fn chairs_report(by: &Standing, seen: bool) -> Result<(), Rule>
     ensures { result ≡ judged (chairs_report by.now seen) tt }
 {
@@ -46,7 +55,11 @@ fn chairs_report(by: &Standing, seen: bool) -> Result<(), Rule>
     Ok(())
 }
 
-/// The same of the letter on a paper, which is there or isn't, and to which she stands so.
+/// Checks whether a caller with this standing at a paper, which is there or isn't, may have the letter on it.
+///
+/// # Errors
+///
+/// The first broken rule.
 fn letter_rule(by: &Standing, there: bool) -> Result<(), Rule>
     ensures { result ≡ judged (letter_checks by.now there) tt }
 {
@@ -64,8 +77,12 @@ fn letter_rule(by: &Standing, there: bool) -> Result<(), Rule>
 
 /// Who may have a report.
 impl Live {
-    /// Whether a user, or nobody, may have the report, or the first broken rule: `NotMember` or, of the load,
-    /// `NotChair`, of a letter `NoPaper` and then `NotAuthor`, and last `WrongPhase`. A few reads by number.
+    /// Checks whether a user, or an unauthenticated caller, may have the report. A few reads by number.
+    ///
+    /// # Errors
+    ///
+    /// The first broken rule: `NotMember` or, of the load, `NotChair`, of a letter `NoPaper` and then `NotAuthor`, and
+    /// last `WrongPhase`.
     pub fn may_have(&self, user: &Option<UserNo>, report: &Report) -> Result<(), Rule>
         ensures { result ≡ judged (report_checks (facts_of_tables self.now.tables user.now) report.now) tt }
     {
@@ -82,10 +99,13 @@ impl Live {
     }
 }
 
-/// Who reviews it, and whether she has written.
+/// Its reviewers, and whether they have written.
 impl Live {
-    /// The seats of all who were ever assigned to it, at most 26, those that somebody has left
-    /// among them. Found by number.
+    /// Returns the seats of all who were ever assigned to it, at most 26, those that somebody has left among them.
+    ///
+    /// # Cost
+    ///
+    /// Found by number.
     pub fn seats(&self, paper: PaperNo) -> &[Tie<Seat>]
         ensures ties { result.now ≡ ties_of ByPaper paper self.now.tables.seats }
         ensures few { length result.now ≤ 26 }
@@ -93,15 +113,22 @@ impl Live {
         self.seats.seats(paper, &mut Steps::uncounted())
     }
 
-    /// Whether there is a form under its label of this ordinal. Found by number, and a walk
-    /// over its forms up to the first.
+    /// Returns whether there is a form under its label of this ordinal.
+    ///
+    /// # Cost
+    ///
+    /// Found by number, and a walk over its forms up to the first.
     pub fn is_written(&self, paper: PaperNo, label: Ordinal) -> bool
         ensures { result ≡ is_written_in self.now.tables.reviews paper label }
     {
         self.reviews.has_form(paper, label, &mut Steps::uncounted())
     }
 
-    /// The last form under the label. Found by number, and a walk over its forms back to it.
+    /// Returns the last form under the label.
+    ///
+    /// # Cost
+    ///
+    /// Found by number, and a walk over its forms back to it.
     pub fn last_form(&self, paper: PaperNo, label: Ordinal) -> Option<&WrittenForm>
         ensures { option_copied result ≡ last_form_in self.now.tables.reviews paper label }
     {
@@ -119,7 +146,7 @@ pub struct ScoreSum {
 }
 
 impl ScoreSum {
-    /// With one more score, where there is one.
+    /// Returns the sum with one more score, if there is one.
     fn with(self, score: Option<Grade>) -> ScoreSum
         requires count { self.count ≤ 26 }
         requires sum { self.sum ≤ 5 * self.count }
@@ -139,8 +166,11 @@ impl ScoreSum {
 
 /// Its scores.
 impl Live {
-    /// The scores of the last forms under its labels that the committee discusses, counted and summed. A walk
-    /// over its forms, and for each label under which there is one two more at most.
+    /// Returns the scores of the last forms under its labels that the committee discusses, counted and summed.
+    ///
+    /// # Cost
+    ///
+    /// A walk over its forms, and for each label under which there is one two more at most.
     pub fn scores(&self, paper: PaperNo) -> ScoreSum
         ensures value { result ≡ score_sum (last_scores (shown_in_tables self.now.tables) paper) }
         ensures count { result.count ≤ 26 }
@@ -154,7 +184,7 @@ impl Live {
         scores
     }
 
-    /// The score of the last form under the label that the committee discusses, where there is one under it.
+    /// Returns the score of the last form under the label that the committee discusses, where there is one under it.
     fn score_under(&self, written: &Labels, paper: PaperNo, label: Ordinal) -> Option<Grade>
         requires { (o : ℕ) → has_label written.now o ≡ is_written_in self.now.tables.reviews paper o }
         ensures { listed result ≡ score_under self.now.tables paper label }
@@ -166,7 +196,7 @@ impl Live {
         Some(form.form.score)
     }
 
-    /// The last form under the label that the committee discusses.
+    /// Returns the last form under the label that the committee discusses.
     fn last_discussed(&self, paper: PaperNo, label: Ordinal) -> Option<&WrittenForm>
         ensures { option_map written_told (option_copied result) ≡ last_discussed self.now.tables paper label }
     {

@@ -12,8 +12,12 @@ use crate::live::Live;
 use crate::queries::AnswerError;
 use cr_base::{PaperNo, Reply, Rule, Standing, Steps, Text, UserNo};
 
-/// Whether one who stands so to a paper, which is there or isn't, may ask for its response, which is there or isn't, or
-/// the first broken rule.
+/// Checks whether a caller with this standing at a paper, which is there or isn't, may ask for its response, which is
+/// there or isn't.
+///
+/// # Errors
+///
+/// The first broken rule.
 pub(crate) fn response_rule(by: &Standing, there: bool, responded: bool) -> Result<(), Rule>
     ensures { result ≡ judged (response_checks by.now (of_there there) responded) tt }
 {
@@ -36,10 +40,15 @@ pub(crate) fn response_rule(by: &Standing, there: bool, responded: bool) -> Resu
 }
 
 impl Live {
-    /// What a paper's authors responded, as a user, or nobody, may read it, or the first broken rule: `NoPaper` where
-    /// there is no such paper; where she is no author of it, `NotMember`, else `Conflict` where she is in conflict with
-    /// it, else `WrongPhase` before the discussion; else `NoResponse` where there is none. An error for lack of memory
-    /// only where no rule is broken. The text is shared: the cost is a few reads by number, whatever its length.
+    /// Returns what a paper's authors responded, as a user, or an unauthenticated caller, may read it. Fails for lack
+    /// of memory only if no rule is broken. The text is shared: the cost is a few reads by number, whatever its
+    /// length.
+    ///
+    /// # Errors
+    ///
+    /// The first broken rule: `NoPaper` if there is no such paper; if the user is no author of it, `NotMember`, else
+    /// `Conflict` if the user is in conflict with it, else `WrongPhase` before the discussion; else `NoResponse` if
+    /// there is none.
     pub fn response_for(
         &self,
         user: &Option<UserNo>,
@@ -53,7 +62,7 @@ impl Live {
         }
     }
 
-    /// The same as a reply.
+    /// Returns this as a reply.
     pub(crate) fn response_reply(
         &self,
         user: &Option<UserNo>,
@@ -67,7 +76,11 @@ impl Live {
         }
     }
 
-    /// The response, lent, or the first broken rule.
+    /// Returns the response, lent.
+    ///
+    /// # Errors
+    ///
+    /// The first broken rule.
     pub(crate) fn response_told(
         &self,
         user: &Option<UserNo>,
@@ -85,7 +98,7 @@ impl Live {
         }
     }
 
-    /// What the authors of the paper responded, where one is named and they did.
+    /// Returns what the authors of the paper responded, where one is named and they did.
     fn response_of(&self, paper: &Option<PaperNo>) -> Option<&Text>
         ensures { option_copied result ≡ option_and_then (response_in self.now.tables.talk) paper.now }
     {

@@ -20,10 +20,13 @@ use cr_base::{
 use cr_reviews::Labels;
 use std::alloc::{AllocError, Global};
 
-/// Her own label.
+/// The user's own label.
 impl Live {
-    /// The ordinal of the label under which the user reviews the paper; none for nobody. A walk over the paper's
-    /// seats, at most 26.
+    /// Returns the ordinal of the label under which the user reviews the paper; `None` for an unauthenticated caller.
+    ///
+    /// # Cost
+    ///
+    /// A walk over the paper's seats, at most 26.
     pub(crate) fn ordinal_of(&self, user: &Option<UserNo>, paper: PaperNo) -> Option<Ordinal>
         ensures { result ≡ ordinal_in self.now.tables.seats user.now paper }
     {
@@ -36,7 +39,7 @@ impl Live {
 
 /// All bids.
 impl Live {
-    /// These bids, where they are told.
+    /// Returns these bids, if they are told.
     pub(crate) fn bids_told(
         &self,
         alloc: Global,
@@ -51,7 +54,7 @@ impl Live {
         }
     }
 
-    /// These bids, without those of users whom nobody knows.
+    /// Returns these bids, without those of users that no account has.
     fn bidders(&self, alloc: Global, ties: &[Tie<Bid>]) -> Result<Bids, AllocError>
         ensures { IfOk result (λ bids. bids ≡ bidders_of self.now.tables (map bid_of ties.now)) }
     {
@@ -62,7 +65,11 @@ impl Live {
         Ok(Bids::from_vec(bids))
     }
 
-    /// A bid with the name of whose it is, where she has one. One read by number.
+    /// Returns a bid with the name of whose it is, if the user has one.
+    ///
+    /// # Cost
+    ///
+    /// One read by number.
     fn bidder(&self, tie: &Tie<Bid>) -> Option<Bidder>
         ensures { result ≡ bidder_told (lines_of self.now.tables.accounts) (bid_of tie.now) }
     {
@@ -76,10 +83,10 @@ impl Live {
     }
 }
 
-/// Who reviews.
+/// The reviewers.
 impl Live {
-    /// Those of these seats that nobody has left, where they are told, each as she is told of who stands so to the
-    /// paper.
+    /// Returns those of these seats that no reviewer has left, if they are told, each as the user is told of with this
+    /// standing at the paper.
     pub(crate) fn reviewers_told(
         &self,
         alloc: Global,
@@ -95,7 +102,7 @@ impl Live {
         }
     }
 
-    /// Those of these seats that nobody has left; a form is written under each of these labels.
+    /// Returns those of these seats that no reviewer has left; a form is written under each of these labels.
     fn reviewers(
         &self,
         alloc: Global,
@@ -115,8 +122,12 @@ impl Live {
         Ok(Reviewers::from_vec(reviewers))
     }
 
-    /// The name of who has this seat, where it is shown to who stands so to the seat's paper, unless the reviewer has
-    /// left it. One read by number, where it is.
+    /// Returns the name of who has this seat, if it is shown to with this standing at the seat's paper, unless the
+    /// reviewer has left it.
+    ///
+    /// # Cost
+    ///
+    /// One read by number, if it is.
     pub fn reviewer_name(&self, by: &Standing, seat: &Tie<Seat>) -> Option<Short>
         ensures { result ≡ holder_name self.now.tables by.now seat.now }
     {
@@ -127,8 +138,9 @@ impl Live {
     }
 }
 
-/// Who has this seat, under this name where it is shown, as who stands so to the seat's paper is told of
-/// her, who has written a review or hasn't; none where she has left it.
+/// Returns the reviewer in this seat, under this name if it is shown, as far as a caller with this standing at the
+/// seat's paper is told of them; `written` says whether they have written a review. `None` if the reviewer has left
+/// it.
 fn reviewer(by: &Standing, seat: &Tie<Seat>, written: bool, name: Option<Short>) -> Option<Reviewer>
     ensures { result ≡ reviewer_of by.now seat.now written name }
 {

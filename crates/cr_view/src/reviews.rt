@@ -26,15 +26,19 @@ use std::alloc::{AllocError, Global};
 /// A label under which reviews are told.
 #[derive(Clone, Copy)]
 pub(crate) struct Heading {
-    /// Whether they are told to an author of the paper.
+    /// True if they are told to an author of the paper.
     pub(crate) to_author: bool,
     /// The label's ordinal.
     pub(crate) label: Ordinal,
-    /// The reviewer's name, where it is told.
+    /// The reviewer's name, if it is told.
     pub(crate) user: Option<Short>,
 }
 
-/// What is told of a form under a label; an error only for lack of memory. Shares the texts.
+/// Returns what is told of a form under a label. Shares the texts.
+///
+/// # Errors
+///
+/// If memory runs out.
 fn review_line(heading: &Heading, written: &WrittenForm) -> Result<ReviewLine, AllocError>
     ensures { IfOk result (λ line. line ≡ review_line heading.now (written_told written.now)) }
 {
@@ -52,7 +56,7 @@ fn review_line(heading: &Heading, written: &WrittenForm) -> Result<ReviewLine, A
     })
 }
 
-/// The number of a form, where it is told.
+/// Returns the number of a form, if it is told.
 fn version_told(heading: &Heading, written: &WrittenForm) -> Option<u64>
     ensures { result ≡ (review_line heading.now (written_told written.now)).version }
 {
@@ -62,7 +66,11 @@ fn version_told(heading: &Heading, written: &WrittenForm) -> Option<u64>
     Some(written.version)
 }
 
-/// Adds what is told of a form, where there is one; an error only for lack of memory.
+/// Adds what is told of a form, where there is one.
+///
+/// # Errors
+///
+/// If memory runs out.
 fn push_form(
     lines: &mut Vec<ReviewLine>,
     heading: &Heading,
@@ -77,7 +85,7 @@ fn push_form(
     Ok(())
 }
 
-/// The form, where it stands under the label and was written in the phase or later.
+/// Returns the form, if it is under the label and was written in the phase or later.
 fn form_under(written: &WrittenForm, label: Ordinal, phase: Phase) -> Option<&WrittenForm>
     ensures { option_copied result ≡ form_under label phase written.now }
 {
@@ -88,8 +96,15 @@ fn form_under(written: &WrittenForm, label: Ordinal, phase: Phase) -> Option<&Wr
     }
 }
 
-/// Adds what is told of those of the forms that stand under the label and were written in the phase or
-/// later; an error only for lack of memory. A walk over the forms.
+/// Adds what is told of those of the forms that are under the label and were written in the phase or later.
+///
+/// # Errors
+///
+/// If memory runs out.
+///
+/// # Cost
+///
+/// A walk over the forms.
 fn push_forms(
     lines: &mut Vec<ReviewLine>,
     heading: &Heading,
@@ -106,7 +121,11 @@ fn push_forms(
     Ok(())
 }
 
-/// Who was assigned under the label, whether she has left since or not. A walk over the seats.
+/// Returns who was assigned under the label, whether the user has left since or not.
+///
+/// # Cost
+///
+/// A walk over the seats.
 fn user_under(seats: &[Tie<Seat>], label: Ordinal) -> Option<UserNo>
     ensures { result ≡ option_map (λ seat. seat.pair.user) (find (λ seat. seat.value.ordinal == label) seats.now) }
 {
@@ -114,8 +133,12 @@ fn user_under(seats: &[Tie<Seat>], label: Ordinal) -> Option<UserNo>
     Some(seat.pair.user)
 }
 
-/// Whether one who stands so to a paper, which is there or isn't, may ask for its reviews, where the response was
-/// opened or wasn't, or the first broken rule.
+/// Checks whether a caller with this standing at a paper, which is there or isn't, may ask for its reviews, if the
+/// response was opened or wasn't.
+///
+/// # Errors
+///
+/// The first broken rule.
 pub(crate) fn reviews_rule(by: &Standing, opened: bool, there: bool) -> Result<(), Rule>
     ensures { result ≡ judged (reviews_checks by.now opened (of_there there)) tt }
 {
@@ -143,16 +166,19 @@ pub(crate) fn reviews_rule(by: &Standing, opened: bool, there: bool) -> Result<(
     Ok(())
 }
 
-/// Who is answered.
+/// Who may read reviews.
 impl Live {
-    /// The reviews of a paper as a user, or nobody, is told them, or the first broken rule: `NoPaper` where
-    /// there is no such paper; of its authors `WrongPhase` before the notification, unless the response was opened; of
-    /// others `NotMember`, else `Conflict` where she is in conflict with it, else `WrongPhase`: of a member before the
-    /// discussion, unless the reviewing has begun and she reviews it; of an external who doesn't review it, or before
-    /// the reviewing.
-    /// An error for lack of memory only where no rule is broken. Shares the texts that are told, and no others.
-    /// Authors, and members from the discussion on, cost a walk over the paper's forms, and two more at most for each
-    /// label under which there is one; a reviewer before it costs one.
+    /// Returns the reviews of a paper as a user, or an unauthenticated caller, is told them. Fails for lack of memory
+    /// only if no rule is broken. Shares the texts that are told, and no others. Authors, and members from the
+    /// discussion on, cost a walk over the paper's forms, and two more at most for each label under which there is
+    /// one; a reviewer before it costs one.
+    ///
+    /// # Errors
+    ///
+    /// The first broken rule: `NoPaper` if there is no such paper; of its authors `WrongPhase` before the
+    /// notification, unless the response was opened; of others `NotMember`, else `Conflict` if the user is in conflict
+    /// with it, else `WrongPhase`: of a member before the discussion, unless the reviewing has begun and the user
+    /// reviews it; of an external who doesn't review it, or before the reviewing.
     pub fn reviews_for(
         &self,
         alloc: Global,
@@ -171,7 +197,7 @@ impl Live {
         }
     }
 
-    /// The same as a reply.
+    /// Returns this as a reply.
     pub(crate) fn reviews_reply(
         &self,
         alloc: Global,
@@ -186,7 +212,11 @@ impl Live {
         }
     }
 
-    /// How she stands to the paper whose reviews she may ask for, or the first broken rule.
+    /// Returns the caller's standing at the paper whose reviews the user may ask for.
+    ///
+    /// # Errors
+    ///
+    /// The first broken rule.
     pub(crate) fn reviews_reader(
         &self,
         user: &Option<UserNo>,
@@ -204,7 +234,7 @@ impl Live {
 
 /// What is told.
 impl Live {
-    /// The reviews that one who stands so to the paper is told.
+    /// Returns the reviews that a caller with this standing at the paper is told.
     fn reviews(
         &self,
         alloc: Global,
@@ -220,7 +250,7 @@ impl Live {
         self.own_reviews(alloc, user, by, paper)
     }
 
-    /// The forms of every label that are told, by label, those of a label by version.
+    /// Returns the forms of every label that are told, by label, those of a label by version.
     fn all_reviews(
         &self,
         alloc: Global,
@@ -267,8 +297,8 @@ impl Live {
         push_forms(lines, &heading, forms, Phase::Discussion)
     }
 
-    /// The form of a label that its paper's authors are told: from the notification on the last; and before it the last
-    /// that was written before the response, where that was opened.
+    /// Returns the form of a label that its paper's authors are told: from the notification on the last; and before it
+    /// the last that was written before the response, if that was opened.
     fn authors_form(&self, by: &Standing, paper: PaperNo, label: Ordinal) -> Option<&WrittenForm>
         ensures { option_map written_told (option_copied result)
             ≡ authors_form (shown_in_tables self.now.tables) by.now paper label }
@@ -284,8 +314,11 @@ impl Live {
             .last_before(paper, label, Phase::Response, steps)
     }
 
-    /// The name of whoever was assigned under the label, where it is told. Found by number: a walk over the
-    /// paper's seats and one read by number, where it is.
+    /// Returns the name of a user who was assigned under the label, if it is told.
+    ///
+    /// # Cost
+    ///
+    /// Found by number: a walk over the paper's seats and one read by number, if it is.
     pub fn label_name(&self, by: &Standing, paper: PaperNo, label: Ordinal) -> Option<Short>
         ensures { result ≡ label_name self.now.tables (shows_reviewer by.now) paper label }
     {
@@ -296,7 +329,7 @@ impl Live {
         self.accounts.name_of(user)
     }
 
-    /// Her own forms, without her name; none where she doesn't review the paper.
+    /// Returns the user's own forms, without their name; none if the user doesn't review the paper.
     fn own_reviews(
         &self,
         alloc: Global,

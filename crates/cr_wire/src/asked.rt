@@ -25,7 +25,7 @@ use cr_routes::{Matched, Method, Resource, Routes};
 use std::alloc::{AllocError, Global};
 use std::str::from_utf8;
 
-/// What a path is found to be, which is text.
+/// Returns what a path is found to be, which is text.
 fn find<'p>(routes: &Routes, path: &'p [u8]) -> Option<Matched<'p>>
     ensures { option_map seen result ≡ spec.find_at path.now }
 {
@@ -35,14 +35,14 @@ fn find<'p>(routes: &Routes, path: &'p [u8]) -> Option<Matched<'p>>
     }
 }
 
-/// What a method asks for at a resource.
+/// Returns what a method asks for at a resource.
 fn ask_at(resource: Resource, method: &[u8]) -> Option<Ask>
     ensures { result ≡ option_and_then (ask_of_resource resource) (method_of method.now) }
 {
     resource.ask(Method::read(method)?)
 }
 
-/// The command that path and body tell, of what is told by a JSON body.
+/// Returns the command that path and body tell, of what is told by a JSON body.
 fn command(
     alloc: Global,
     ask: Ask,
@@ -64,7 +64,7 @@ fn command(
     }
 }
 
-/// An upload, whose content is the body as it is.
+/// Returns an upload, whose content is the unchanged body.
 fn upload(alloc: Global, paper: Option<PaperNo>, request: &Numbered<'_>) -> Result<What, AllocError>
     requires key { IsKeyOrNone (own_key request.now) }
     ensures told { Gives result
@@ -75,7 +75,7 @@ fn upload(alloc: Global, paper: Option<PaperNo>, request: &Numbered<'_>) -> Resu
     Ok(request.giving(Command::Upload { paper, content }))
 }
 
-/// That a tag is on or off, which the path alone tells.
+/// Returns a tag's command, on or off, which the path determines.
 fn tagged(ask: Ask, found: Matched<'_>, request: &Numbered<'_>, on: bool) -> What
     requires key { IsKeyOrNone (own_key request.now) }
     ensures told { result ≡ spec.tagged ask (seen found.entry) (own_key request.now) on }
@@ -91,7 +91,7 @@ fn tagged(ask: Ask, found: Matched<'_>, request: &Numbered<'_>, on: bool) -> Wha
     }
 }
 
-/// A bulk, whose rows the body spells.
+/// Returns a bulk, whose rows the body spells.
 fn bulk(alloc: Global, request: &Numbered<'_>) -> Result<What, AllocError>
     requires key { IsKeyOrNone (own_key request.now) }
     ensures told { Gives result
@@ -110,7 +110,7 @@ fn bulk(alloc: Global, request: &Numbered<'_>) -> Result<What, AllocError>
     }
 }
 
-/// That a report is asked for.
+/// Returns the request for a report.
 fn reported(report: Report) -> What
     ensures told { result ≡ What.Query (Query.Report report) }
     ensures bounded { IsBoundedWhat result }
@@ -118,7 +118,7 @@ fn reported(report: Report) -> What
     What::Query(Query::Report { report })
 }
 
-/// What is asked for, by its path, and by its query string or its body too.
+/// Returns what is asked for, by its path, and by its query string or its body too.
 fn asked(
     alloc: Global,
     ask: Ask,
@@ -183,9 +183,11 @@ fn asked(
     }
 }
 
-/// What a request of this head and this body wishes. A bad number is told before the body is looked at. Fails only for
-/// lack of memory, which the reading of a JSON body, of the rows of a bulk, of a search or of a plan and the keeping of
-/// an upload alone take.
+/// Returns what a request of this head and this body asks. A bad number is reported before the body is looked at.
+///
+/// # Errors
+///
+/// If memory runs out. Only a JSON body, the rows of a bulk, a search, a plan and an upload take memory.
 pub(crate) fn what_of(
     alloc: Global,
     routes: &Routes,

@@ -11,15 +11,14 @@ ghost use Rattle.cr_wire.specs.declared.what.Wish.{Wish};
 
 use cr_http::law_one_reading;
 
-/// What a wish asks for is told by path and method alone: no body, no query string and no number, be it a good or a
-/// bad one, changes it. So none changes whether a login is wanted or whether the field Authorization is read, since
-/// both go by what is asked for.
+/// What a wish asks for follows from path and method: no body, query string or number, good or bad, changes it. So
+/// none changes whether authentication is required or whether the field Authorization is read.
 pub fn law_one_ask()
     ensures { (ask : Ask) (found : FoundPath) (told : Result (Option ℕ) BadCommandNumber) (r : RequestText)
         → ask_of (with_number ask found told r) ≡ Some ask }
 {}
 
-/// A text has one end, and spells so many wishes, of each of which all but its moment is told by the text.
+/// A text has one end, and spells one list of wishes, whose parts the text determines, except the timestamps.
 pub fn law_one_list_of_wishes()
     ensures { (bytes : List ℕ) (ws vs : List Wish) (one other : End)
         → Wishes bytes ws one → Wishes bytes vs other

@@ -10,14 +10,14 @@ use cr_http::{Head, Values};
 #[derive(Clone, Copy, PartialEq, Eq)]
 pub(crate) struct BadCommandNumber;
 
-/// Whether a text is a number in decimal of at most 18 digits.
+/// Returns whether a text is a number in decimal of at most 18 digits.
 fn is_command_number(value: &[u8]) -> bool
     ensures { result ≡ spec.is_command_number value.now }
 {
     value.len() <= 18 && is_number(value)
 }
 
-/// The number that a field's value is.
+/// Returns the number that a field's value is.
 fn number_of(value: &[u8]) -> Result<Option<CommandNumber>, BadCommandNumber>
     ensures { result ≡ spec.number_of value.now }
 {
@@ -27,7 +27,7 @@ fn number_of(value: &[u8]) -> Result<Option<CommandNumber>, BadCommandNumber>
     Ok(CommandNumber::new(decimal_value(value)))
 }
 
-/// Whether a request for this reads the field Command-Number: a command but a registration, and a bulk.
+/// Returns whether a request for this reads the field Command-Number: a command but a registration, and a bulk.
 fn reads_number(ask: Ask) -> bool
     ensures { result ≡ spec.ask_reads_number ask }
 {
@@ -47,10 +47,13 @@ fn reads_number(ask: Ask) -> bool
     }
 }
 
-/// The number that a request for this gives its command; none where there is no field Command-Number, or where the
-/// request doesn't read it. An error where it reads it and there is more than one, or one that isn't 1 to 18 digits,
-/// the first not 0, the spaces and tabs around them aside. Looks at each field's name and at 18 bytes of the value at
-/// most; takes no memory.
+/// Returns the number that a request for this gives its command; `None` if there is no field Command-Number, or where
+/// the request doesn't read it. An error where it reads it and there is more than one, or one that isn't 1 to 18
+/// digits, the first not 0, the spaces and tabs around them aside.
+///
+/// # Cost
+///
+/// Looks at each field's name and at 18 bytes of the value at most. Takes no memory.
 pub(crate) fn number_for(
     ask: Ask,
     head: &Head<'_>,

@@ -22,8 +22,11 @@ pub(crate) struct Numbered<'r> {
 }
 
 impl Numbered<'_> {
-    /// The key of its command: the number with the mark of the request. Costs the digest of method, path and body, and
-    /// nothing where there is no number.
+    /// Returns the key of its command: the number with the mark of the request.
+    ///
+    /// # Cost
+    ///
+    /// The digest of method, path and body, and nothing where there is no number.
     pub(crate) fn key(&self) -> Option<RetryKey>
         ensures { result ≡ own_key self.now }
     {
@@ -35,7 +38,7 @@ impl Numbered<'_> {
         })
     }
 
-    /// What is wished where it gives this command.
+    /// Returns what is wished where it gives this command.
     pub(crate) fn giving(&self, command: Command) -> What
         requires bounded { IsBoundedCommand command }
         requires key { IsKeyFor (command_wants_login command) (own_key self.now) }

@@ -7,14 +7,14 @@ ghost use Rattle.cr_wire.specs.Paper as spec;
 use cr_base::{PaperNo, Short, Tag, all_digits, parse_name, parse_paper};
 use cr_routes::Matched;
 
-/// Whether a text is a number in decimal, without a zero in front.
+/// Returns whether a text is a number in decimal, without a zero in front.
 pub(crate) fn is_number(text: &[u8]) -> bool
     ensures { result ≡ spec.is_number text.now }
 {
     !text.is_empty() && text[0] != b'0' && all_digits(text)
 }
 
-/// The version of a text.
+/// Returns the version of a text.
 fn parse_version(text: &str) -> u64
     ensures { result ≡ spec.parse_version text.now }
 {
@@ -27,17 +27,24 @@ fn parse_version(text: &str) -> u64
     }
 }
 
-/// The paper that a path is about: Some exactly where its first parameter is a number from 1 to 9,999 in decimal,
-/// without a sign and without a zero in front. Looks at four bytes at most and costs no allocation.
+/// Returns the paper that a path is about: Some exactly if its first parameter is a number from 1 to 9,999 in decimal,
+/// without a sign and without a zero in front.
+///
+/// # Cost
+///
+/// Looks at four bytes at most and costs no allocation.
 pub(crate) fn paper_of(found: Matched<'_>) -> Option<PaperNo>
     ensures { result ≡ spec.paper_of (seen found.entry) }
 {
     parse_paper(found.first?.as_bytes())
 }
 
-/// The version that a path is about: its second parameter, where that is a number below 2 ^ 64 in decimal,
-/// without a sign and without a zero in front. Else 0, which no version has. Looks at each of its bytes at most
-/// twice and costs no allocation.
+/// Returns the version that a path is about: its second parameter, if that is a number below 2 ^ 64 in decimal,
+/// without a sign and without a zero in front. Else 0, which no version has.
+///
+/// # Cost
+///
+/// Looks at each of its bytes at most twice and costs no allocation.
 pub(crate) fn version_of(found: Matched<'_>) -> u64
     ensures { result ≡ spec.version_of (seen found.entry) }
 {
@@ -47,22 +54,29 @@ pub(crate) fn version_of(found: Matched<'_>) -> u64
     }
 }
 
-/// The user that a path is about: its second parameter, where that is a name, 1 to 32 of `a-z0-9-`. Looks at each of
-/// at most 32 bytes once and costs no allocation.
+/// Returns the user that a path is about: its second parameter, if that is a name, 1 to 32 of `a-z0-9-`.
+///
+/// # Cost
+///
+/// Looks at each of at most 32 bytes once and costs no allocation.
 pub(crate) fn user_of(found: Matched<'_>) -> Option<Short>
     ensures { result ≡ spec.user_of (seen found.entry) }
 {
     parse_name(found.second?.as_bytes())
 }
 
-/// The user that a path is about which is on no paper: its first parameter, where that is a name. Costs the same.
+/// Returns the user of a path that concerns no paper: its first parameter, if that is a name.
+///
+/// # Cost
+///
+/// Looks at each of at most 32 bytes once.
 pub(crate) fn member_of(found: Matched<'_>) -> Option<Short>
     ensures { result ≡ spec.member_of (seen found.entry) }
 {
     parse_name(found.first?.as_bytes())
 }
 
-/// The tag of a text.
+/// Returns the tag of a text.
 fn parse_tag(text: &[u8]) -> Option<Tag>
     ensures value { result ≡ spec.parse_tag text.now }
     ensures valid { IfSome result (λ tag. IsTrue (is_tag tag)) }
@@ -70,8 +84,12 @@ fn parse_tag(text: &[u8]) -> Option<Tag>
     Tag::read(text)
 }
 
-/// The tag that a path is about: its second parameter, where that is a tag, 1 to 32 of `a-z0-9-` behind at most two
-/// `~`. Looks at each of at most 34 bytes once and costs no allocation.
+/// Returns the tag that a path is about: its second parameter, if that is a tag, 1 to 32 of `a-z0-9-` after at most
+/// two `~`.
+///
+/// # Cost
+///
+/// Looks at each of at most 34 bytes once and costs no allocation.
 pub(crate) fn tag_of(found: Matched<'_>) -> Option<Tag>
     ensures value { result ≡ spec.tag_of (seen found.entry) }
     ensures valid { IfSome result (λ tag. IsTrue (is_tag tag)) }

@@ -17,14 +17,14 @@ use form_urlencoded::{decode, raw_pairs};
 use std::alloc::{AllocError, Global};
 use std::borrow::CowStr;
 
-/// The text that an encoded name or value stands for.
+/// Returns the text that encodes to this name or value.
 fn decoded<'q>(alloc: Global, bytes: &'q [u8]) -> Result<CowStr<'q>, AllocError>
     ensures { IfOk result (λ text. cow_str_bytes text ≡ spec.decoded bytes.now) }
 {
     decode(alloc, bytes)
 }
 
-/// Whether an encoded name or value stands for a text.
+/// Returns whether a name or value is the encoding of a text.
 fn stands_for(alloc: Global, text: &[u8], bytes: &[u8]) -> Result<bool, AllocError>
     ensures { IfOk result (λ same. same ≡ spec.stands_for text.now bytes.now) }
 {
@@ -32,7 +32,7 @@ fn stands_for(alloc: Global, text: &[u8], bytes: &[u8]) -> Result<bool, AllocErr
     Ok(told.as_bytes() == text)
 }
 
-/// The value of the first pair of a name.
+/// Returns the value of the first pair of a name.
 fn value_in<'q>(
     alloc: Global,
     wanted: &[u8],
@@ -48,7 +48,7 @@ fn value_in<'q>(
     Ok(None)
 }
 
-/// Whether a pair is `only=count`.
+/// Returns whether a pair is `only=count`.
 fn is_count(alloc: Global, name: &[u8], value: &[u8]) -> Result<bool, AllocError>
     ensures { IfOk result (λ is. is ≡ spec.is_count (name.now, value.now)) }
 {
@@ -59,7 +59,7 @@ fn is_count(alloc: Global, name: &[u8], value: &[u8]) -> Result<bool, AllocError
     }
 }
 
-/// Whether how many papers a search finds is asked for, and not which.
+/// Returns whether how many papers a search finds is asked for, and not which.
 fn asks_count(alloc: Global, query: &[u8]) -> Result<bool, AllocError>
     ensures { IfOk result (λ asks. asks ≡ spec.asks_count query.now) }
 {
@@ -71,7 +71,7 @@ fn asks_count(alloc: Global, query: &[u8]) -> Result<bool, AllocError>
     Ok(false)
 }
 
-/// What is wished by the text of a search.
+/// Returns what is wished by the text of a search.
 fn searched(alloc: Global, only_count: bool, text: &[u8]) -> Result<What, AllocError>
     ensures told { Gives result (spec.searched only_count (text_read text.now)) }
     ensures bounded { IfOk result IsBoundedWhat }
@@ -86,8 +86,8 @@ fn searched(alloc: Global, only_count: bool, text: &[u8]) -> Result<What, AllocE
     }
 }
 
-/// What is wished by what follows the first question mark of a target. Reads each pair twice at most, and copies a
-/// name or a value only where it has something to decode. Fails only for lack of memory.
+/// Returns what is wished by what follows the first question mark of a target. Reads each pair twice at most, and
+/// copies a name or a value only where it has something to decode. Fails only for lack of memory.
 pub(crate) fn search_in(alloc: Global, target: &[u8]) -> Result<What, AllocError>
     ensures told { Gives result (spec.search_in (query_of target.now)) }
     ensures bounded { IfOk result IsBoundedWhat }
@@ -103,14 +103,14 @@ pub(crate) fn search_in(alloc: Global, target: &[u8]) -> Result<What, AllocError
     }
 }
 
-/// Whether a text is one to three digits, the first not 0.
+/// Returns whether a text is one to three digits, the first not 0.
 fn is_short_number(text: &[u8]) -> bool
     ensures { result ≡ spec.is_short_number text.now }
 {
     is_number(text) && text.len() <= 3
 }
 
-/// The number that a text is, from 1 to `most`: one to three digits, the first not 0.
+/// Returns the number that a text is, from 1 to `most`: one to three digits, the first not 0.
 fn number_to(most: u64, text: &[u8]) -> Option<u64>
     ensures value { result ≡ spec.number_to most text.now }
     ensures within { IfSome result (λ number. (1 ≤ number) × (number ≤ most)) }
@@ -125,7 +125,7 @@ fn number_to(most: u64, text: &[u8]) -> Option<u64>
     Some(number)
 }
 
-/// The number that the first pair of a name tells, from 1 to `most`.
+/// Returns the number that the first pair of a name tells, from 1 to `most`.
 fn number_in(alloc: Global, name: &[u8], most: u64, query: &[u8]) -> Result<Option<u64>, AllocError>
     ensures value { IfOk result (λ number. number ≡ spec.number_in name.now most query.now) }
     ensures within { IfOk result (λ number. IfSome number (λ n. (1 ≤ n) × (n ≤ most))) }
@@ -136,7 +136,7 @@ fn number_in(alloc: Global, name: &[u8], most: u64, query: &[u8]) -> Result<Opti
     }
 }
 
-/// What is wished by the two numbers of a plan.
+/// Returns what is wished by the two numbers of a plan.
 fn planned(per_paper: Option<u64>, load: Option<u64>) -> What
     requires per_paper { IfSome per_paper (λ n. (1 ≤ n) × (n ≤ 26)) }
     requires load { IfSome load (λ n. (1 ≤ n) × (n ≤ 512)) }
@@ -155,9 +155,9 @@ fn planned(per_paper: Option<u64>, load: Option<u64>) -> What
     }
 }
 
-/// What is wished by what follows the first question mark of a target that asks for a plan: by its first pairs named
-/// `per_paper`, 1 to 26, and `load`, 1 to 512. Reads each pair twice at most, and copies a name or a value only where
-/// it has something to decode. Fails only for lack of memory.
+/// Returns what is wished by what follows the first question mark of a target that asks for a plan: by its first pairs
+/// named `per_paper`, 1 to 26, and `load`, 1 to 512. Reads each pair twice at most, and copies a name or a value only
+/// where it has something to decode. Fails only for lack of memory.
 pub(crate) fn plan_in(alloc: Global, target: &[u8]) -> Result<What, AllocError>
     ensures told { Gives result (spec.plan_in (query_of target.now)) }
     ensures bounded { IfOk result IsBoundedWhat }

@@ -5,7 +5,7 @@ use cr_base::{Ask, BulkRows, Command, Moment, Query, RetryKey};
 use cr_bodies::Credentials;
 use cr_routes::Resource;
 
-/// What a whole request wishes, by its path, its method, its number and its body, or its query string.
+/// What a whole request asks, by its path, its method, its number and its body, or its query string.
 #[derive(Drop)]
 pub enum What {
     /// The path is none of the server's: answered `no_route`.
@@ -27,7 +27,7 @@ pub enum What {
     },
     /// To change something.
     Command {
-        /// The command's number, with the mark of the request; None where it has none; a registration never has one.
+        /// The command's number, with the mark of the request; `None` if it has none; a registration never has one.
         key: Option<RetryKey>,
         /// What is to change.
         command: Command,
@@ -36,22 +36,22 @@ pub enum What {
     Query(Query),
     /// To change what these rows tell, all of it or nothing.
     Bulk {
-        /// The bulk's number, with the mark of the request; None where it has none.
+        /// The bulk's number, with the mark of the request; `None` if it has none.
         key: Option<RetryKey>,
         /// The rows.
         rows: BulkRows,
     },
 }
 
-/// What a whole request wishes, who tells so, in which form the answer comes, and of which moment it is.
+/// A request whole: what it asks, its credentials, the form of its answer, and its timestamp.
 #[derive(Drop)]
 pub struct Wish {
-    /// What the field Authorization tells a request that reads it; None where another comes with it, and where there
-    /// is no such field, more than one, or one that tells none.
+    /// What the field Authorization tells a request that reads it; `None` if another comes with it, and if there is no
+    /// such field, more than one, or one that tells none.
     pub credentials: Option<Credentials>,
     /// The answer comes without its content: the method is HEAD.
     pub is_head: bool,
-    /// The request asks that the connection be closed behind its answer.
+    /// The request asks that the connection be closed after its answer.
     pub asks_close: bool,
     /// When its request was whole, by the clock: its answer is dated by it, and its entries keep it.
     pub at: Moment,
@@ -62,7 +62,7 @@ pub struct Wish {
 impl What {
     ghost use Rattle.cr_wire.specs.Caller.{ask_of, reads_credentials, wants_login};
 
-    /// What its request asks for: None where it is no request of the server's.
+    /// Returns what its request asks for: `None` if it is no request of the server's.
     fn ask(&self) -> Option<Ask>
         ensures { result ≡ ask_of self.now }
     {
@@ -76,21 +76,22 @@ impl What {
         }
     }
 
-    /// Whether a login is wanted, so that nobody is answered `unauthorized`: by each command but a registration and by
-    /// a bulk, also where its number or its body is a bad one, by a paper's page, content, reviews, response and
-    /// comments, by searches and plans, also by bad ones, by reports, and by what the caller is told of herself.
-    /// Registration, the list of accounts, the state of the conference, its deadlines and the accepted papers want
-    /// none, and what is no request of these is refused alike to everybody. That a published paper's page and content
-    /// are served to nobody too isn't looked at here: the request doesn't tell which papers are.
+    /// Returns whether authentication is required, so that an unauthenticated caller is answered `unauthorized`. It is
+    /// for each command except a registration, and for a bulk, also with a bad number or body; for a paper's page,
+    /// content, reviews, response and comments; for searches and plans, also bad ones; for reports; and for what the
+    /// caller is told about themselves. Registration, the list of accounts, the state of the conference, its deadlines
+    /// and the accepted papers require none, and what is no request of these is refused alike to everybody. That the
+    /// page and content of a published paper are public isn't looked at here, since the request doesn't tell which
+    /// papers are published.
     pub fn wants_login(&self) -> bool
         ensures { result ≡ wants_login self.now }
     {
         self.ask().is_some_and(Ask::wants_login)
     }
 
-    /// Whether its request reads the field Authorization. POST of `/register`, GET and HEAD of `/accounts`, of
-    /// `/phase`, of `/deadlines` and of `/accepted` don't: their caller is nobody. Nor does what is no request of the
-    /// server's, which is refused alike to everybody.
+    /// Returns whether its request reads the field Authorization. POST of `/register`, GET and HEAD of `/accounts`, of
+    /// `/phase`, of `/deadlines` and of `/accepted` don't: their caller is unauthenticated. Nor does what is no
+    /// request of the server's, which is refused alike to everybody.
     pub fn reads_credentials(&self) -> bool
         ensures { result ≡ reads_credentials self.now }
     {

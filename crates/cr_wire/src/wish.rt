@@ -18,7 +18,7 @@ use cr_http::{Body, Head, Values, Version};
 use cr_routes::Routes;
 use std::alloc::{AllocError, Global};
 
-/// What the only field Authorization tells.
+/// Returns what the only field Authorization tells.
 fn credentials_in(head: &Head<'_>) -> Option<Credentials>
     ensures { result ≡ credentials_text head.now.fields }
 {
@@ -28,7 +28,7 @@ fn credentials_in(head: &Head<'_>) -> Option<Credentials>
     }
 }
 
-/// What it tells a request that reads it, so that no other costs the digest of a secret.
+/// Returns what it tells a request that reads it, so that no other costs the digest of a secret.
 fn credentials_for(what: &What, head: &Head<'_>) -> Option<Credentials>
     ensures { result ≡ credentials_for_text what.now head.now.fields }
 {
@@ -39,7 +39,7 @@ fn credentials_for(what: &What, head: &Head<'_>) -> Option<Credentials>
     }
 }
 
-/// Whether a field Connection asks for the close.
+/// Returns whether a field Connection asks for the close.
 fn field_asks_close(head: &Head<'_>) -> bool
     ensures { result ≡ list_any has_close_element (values_of (codes "connection") head.now.fields) }
 {
@@ -52,20 +52,26 @@ fn field_asks_close(head: &Head<'_>) -> bool
     false
 }
 
-/// Whether the request asks that the connection be closed behind its answer.
+/// Returns whether the request asks that the connection be closed after its answer.
 fn asks_close(head: &Head<'_>) -> bool
     ensures { result ≡ asks_close_text head.now }
 {
     head.version() == Version::Http10 || field_asks_close(head)
 }
 
-/// The wish of a request, by its head, its body and the moment at which the clock was asked. Fails only for lack of
-/// memory, which the reading of a JSON body, of the rows of a bulk, of a search or of a plan and the keeping of an
-/// upload alone take. Reads the target's path, the fields' names and the field Connection once, the body and the
-/// query string only where the method and the path want them, the field Authorization only where `reads_credentials`
-/// says so, and the field Command-Number only of commands but registrations, and of bulks. Where that tells a number
-/// and the body is a good one, the digest of method, path and body is computed, and else never. A command that is
-/// wished is within the bounds on commands, and a bulk has at most 512 rows.
+/// Returns the wish of a request, by its head, its body and the timestamp. A command in it is within the bounds on
+/// commands, and a bulk has at most 512 rows.
+///
+/// # Errors
+///
+/// If memory runs out. Only a JSON body, the rows of a bulk, a search, a plan and an upload take memory.
+///
+/// # Cost
+///
+/// Reads the target's path, the fields' names and the field Connection once; the body and the query string only if
+/// method and path use them; Authorization only if `reads_credentials` says so; Command-Number only of bulks and of
+/// commands except registrations. The digest of method, path and body is computed only if there is a number and the
+/// body is a good one.
 pub fn wish_of(
     alloc: Global,
     routes: &Routes,

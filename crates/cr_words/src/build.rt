@@ -14,7 +14,7 @@ pub const GREATEST_SEED: u64 = 2_147_483_647;
 /// How many steps a drill may have.
 pub const MOST_STEPS: u64 = 100_000;
 
-/// The option `--id VALUE`, where VALUE is any text.
+/// Returns the option `--id VALUE`, where VALUE is any text.
 fn text_arg<'a>(alloc: Global, id: &'a str, is_required: bool) -> Arg<'a>
     ensures rule { rule_of result ≡ text_option id.entry.now is_required }
     ensures local { result.global ≡ false }
@@ -22,7 +22,7 @@ fn text_arg<'a>(alloc: Global, id: &'a str, is_required: bool) -> Arg<'a>
     Arg::new(alloc, id).long(id).required(is_required)
 }
 
-/// The option `--id NUMBER`, where NUMBER lies between the two, both included, and has to be there.
+/// Returns the option `--id NUMBER`, where NUMBER lies between the two, both included, and has to be there.
 fn number_arg<'a>(alloc: Global, id: &'a str, low: u64, high: u64) -> Arg<'a>
     ensures rule { rule_of result ≡ number_option id.entry.now low high }
     ensures local { result.global ≡ false }
@@ -70,7 +70,11 @@ fn drill_command<'a>(alloc: Global) -> Result<Command<'a>, AllocError>
         .arg(number_arg(alloc, "steps", 1, MOST_STEPS))
 }
 
-/// The program with its subcommands. It takes memory, and fails for want of it only.
+/// Returns the program with its subcommands.
+///
+/// # Errors
+///
+/// If memory runs out.
 pub(crate) fn confd_command<'a>(alloc: Global) -> Result<Command<'a>, AllocError>
     ensures { IfOk result (λ c. app_of c ≡ confd_words) }
 {

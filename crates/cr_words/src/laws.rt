@@ -8,7 +8,7 @@ ghost use Rattle.cr_words.specs.Words.{confd_words, is_plain_text, serve_word, s
 ghost use Rattle.cr_words.specs.Words.{store_word, user_word, store_words, user_words};
 ghost use Rattle.cr_words.specs.Words.{drill_word, drill_words};
 
-/// `pipe` alone, behind the program's name, whatever that is.
+/// `pipe` and nothing else, after the program's name, whatever that is.
 pub fn law_pipe()
     ensures { (name : Text) → AreTakenFor (name ∷ codes "pipe" ∷ []) (pipe_job None) }
 {}
@@ -55,7 +55,7 @@ pub fn law_serve()
         ≡ ValueValidation ∷ [] }
 {}
 
-/// `serve` with a word for each of its options: the same, whatever address and store are.
+/// `serve` with a word for each of its options, written with `=`, whatever address and store are.
 pub fn law_serve_attached()
     ensures taken { (name listen workers connections file : Text) → are_workers workers ≡ true
         → are_connections connections ≡ true
@@ -84,7 +84,7 @@ pub fn law_drill()
         → fault_of confd_words (name ∷ codes "drill" ∷ drill_words seed steps) ≡ ValueValidation ∷ [] }
 {}
 
-/// `drill` with a word for each of its options: the same.
+/// `drill` with a word for each of its options, written with `=`.
 pub fn law_drill_attached()
     ensures taken { (name seed steps : Text) → is_seed seed ≡ true → are_steps steps ≡ true
         → AreTakenFor (name ∷ codes "drill" ∷ drill_word seed steps)

@@ -56,28 +56,28 @@ pub enum WordsError {
     OutOfMemory,
 }
 
-/// The value of the option `--id`, if it was given.
+/// Returns the value of the option `--id`, if it was given.
 fn option_value<'a>(options: &ArgMatches<'a>, id: &str) -> Option<&'a str>
     ensures { option_map (λ s. s.now) result ≡ first_of id.now (rows_of (found_of options.now)) }
 {
     options.get_str(id)
 }
 
-/// The number that a text spells.
+/// Returns the number that a text spells.
 fn number_of(text: &str) -> Option<u32>
     ensures { result ≡ number_of text.now }
 {
     text.parse::<u32>().ok()
 }
 
-/// The number of the option `--id`, if it was given.
+/// Returns the number of the option `--id`, if it was given.
 fn number_at(options: &ArgMatches, id: &str) -> Option<u32>
     ensures { result ≡ number_at id.now (rows_of (found_of options.now)) }
 {
     number_of(option_value(options, id)?)
 }
 
-/// The job of `serve`, whose options are all there.
+/// Returns the job of `serve`, whose options are all there.
 fn serve_job<'a>(options: &ArgMatches<'a>) -> Option<Job<'a>>
     ensures { option_map job_seen result ≡ serve_named (rows_of (found_of options.now)) }
 {
@@ -93,7 +93,7 @@ fn serve_job<'a>(options: &ArgMatches<'a>) -> Option<Job<'a>>
     })
 }
 
-/// The job of `view`, whose options are both there.
+/// Returns the job of `view`, whose options are both there.
 fn view_job<'a>(options: &ArgMatches<'a>) -> Option<Job<'a>>
     ensures { option_map job_seen result ≡ view_named (rows_of (found_of options.now)) }
 {
@@ -103,7 +103,7 @@ fn view_job<'a>(options: &ArgMatches<'a>) -> Option<Job<'a>>
     })
 }
 
-/// The job of `drill`, whose options are both there.
+/// Returns the job of `drill`, whose options are both there.
 fn drill_job<'a>(options: &ArgMatches<'a>) -> Option<Job<'a>>
     ensures { option_map job_seen result ≡ drill_named (rows_of (found_of options.now)) }
 {
@@ -113,7 +113,7 @@ fn drill_job<'a>(options: &ArgMatches<'a>) -> Option<Job<'a>>
     })
 }
 
-/// The job of the subcommand that was used.
+/// Returns the job of the subcommand that was used.
 fn named_job<'a>(matches: &ArgMatches<'a>) -> Option<Job<'a>>
     ensures { option_map job_seen result ≡ option_and_then job_named (subcommand_rows_of matches.now) }
 {
@@ -129,10 +129,10 @@ fn named_job<'a>(matches: &ArgMatches<'a>) -> Option<Job<'a>>
     }
 }
 
-/// The job that the words name, the first of which is the program's name. Its numbers lie within their ranges.
+/// Returns the job that the words name, the first of which is the program's name. Its numbers lie within their ranges.
 ///
-/// `Usage` comes exactly where `clap` refuses the words by `confd_words`, a call for help included.
-/// `OutOfMemory` comes only where memory ran out. What was taken for the reading is given back.
+/// `Usage` comes exactly if `clap` refuses the words by `confd_words`, a call for help included. `OutOfMemory` comes
+/// only where memory ran out. What was taken for the reading is given back.
 pub fn read_words<'a>(alloc: Global, words: &'a [String]) -> Result<Job<'a>, WordsError>
     ensures job { IfOk result (λ job. job_of (map string_bytes words.entry.now) ≡ Some (job_seen job)) }
     ensures ranges { IfOk result (λ job. IsInRange (job_seen job)) }

@@ -2,7 +2,7 @@
 ghost use Rattle.std.specs.Prelude.{◌≡◌};
 ghost use Rattle.cr_words.specs.Usage.{usage};
 
-/// The line that is written where the words are refused, its line feed included.
+/// Returns the line that is written where the words are refused, its line feed included.
 #[tactic(auto, unfolding(crate::specs::Usage::usage))]
 pub fn usage_text() -> &'static [u8]
     ensures { result.now ≡ usage }

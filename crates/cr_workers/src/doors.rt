@@ -47,7 +47,7 @@ fn serve_last<R: Wait, K: Keeper, D: Door + Drop>(
     (pass, doors, worked)
 }
 
-/// The doors in halves, the larger first; or, without memory for that, all of them.
+/// Returns the doors in halves, the larger first; or, without memory for that, all of them.
 fn halve<D: Door>(doors: Vec<D>) -> Result<(Vec<D>, Vec<D>), Vec<D>>
     requires back { Every (λ door. D.is_out door ≡ false) doors.items }
     ensures whole { IfOk result (λ halves. doors.items ≡ halves.0.items ++ halves.1.items) }
@@ -68,7 +68,7 @@ fn halve<D: Door>(doors: Vec<D>) -> Result<(Vec<D>, Vec<D>), Vec<D>>
     }
 }
 
-/// Both halves in one, in the room of the first.
+/// Joins both halves, in the room of the first.
 fn rejoin<D: Drop>(front: Vec<D>, back: Vec<D>) -> Vec<D>
     requires { length front.items + length back.items ≤ vec_capacity front }
     ensures items { result.items ≡ front.items ++ back.items }

@@ -16,16 +16,14 @@ use std::alloc::Global;
 use std::sync::Wait;
 use std::thread::Threads;
 
-/// Serves the connections of all doors, at most 64, from the book's history on: each door by a worker
-/// of its own, in a thread of its own where one can be made. The book is handed back with the last
-/// history, and the doors in their order.
+/// Serves the connections of all doors, at most 64, from the book's history on: each door by a worker of its own, in a
+/// thread of its own if one can be made. The book is handed back with the last history, and the doors in their order.
+/// A connection's fault ends only that connection.
 ///
-/// - `Done` comes only where each door has given its share.
-/// - `DoorFailed` comes only where a door failed; the others were served to their ends.
-/// - `OutOfMemory` comes where a connection ended for lack of memory, the others having been served; or where there
-///   was none for the lock, or for a half of the doors, which were then not asked.
-///
-/// A connection's fault ends that connection alone.
+/// - `Done`: each door has given its share.
+/// - `DoorFailed`: a door failed; the others were served to their ends.
+/// - `OutOfMemory`: a connection ended for lack of memory, and the others were served; or there was none for the lock,
+///   or for a half of the doors, which were then not asked.
 pub fn serve_book<R: Threads + Wait + Sync, K: Keeper + Send, D: Door + Drop + Send>(
     rt: &R,
     alloc: Global,

@@ -1,9 +1,27 @@
-//! Many connections on one history: workers, each with a door that gives it connections and a pass for its turns.
+//! Many connections on one history: each worker has a door that gives it connections, one after another, and a pass
+//! for its turns with the book. All claims are of `serve_book` (`ServesHistory`).
 //!
-//! A worker serves the connections of its door one after another, and all workers take their turns with the book
-//! behind one lock, whichever way these interleave. What each connection did is told as `serve_connection` tells it;
-//! what they did together is told by the groups that they added: each entry of the last history that wasn't there at
-//! first stands in one group of one connection.
+//! # Proved
+//!
+//! - However turns interleave, there is one history, which begins with the book's and is the last book's (`begins`).
+//! - Each connection was served as `serve_connection` says, on histories that begin with the first and with which the
+//!   last begins. Its turns are those that its worker's pass has more, each with its group at its place (`served`,
+//!   `IsServed`, `IsServedWithin`).
+//! - Each entry after the first history is in exactly one group of one turn of one connection (`once`).
+//! - The keeper's counter rose by what it rose in these turns, so by as many as are marked at least, its maximum aside
+//!   (`counted`, `marked`).
+//! - The doors come back in order, each with the connections that it gave (`before`, `after`).
+//! - `Done`: each door gave its share, and no connection ended for lack of memory. `DoorFailed`: each did or failed,
+//!   and one failed. `OutOfMemory`: a door may not have been asked (`Worked`, `cause`, `each`).
+//! - Premises: at most 64 doors, one a share of the lock, and 2^20 connections, whose turns are at most 2^40.
+//!
+//! # Tested
+//!
+//! - Two workers, one held inside its request until the other's answer has gone: tests_of_books.
+//!
+//! # Not claimed
+//!
+//! - That two connections are served at once, that any is served, or how soon.
 #![tactic(auto)]
 
 mod doors;

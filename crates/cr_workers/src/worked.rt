@@ -14,7 +14,7 @@ pub enum Worked {
 }
 
 impl Worked {
-    /// How these and those ended together.
+    /// Returns how these and those ended together.
     pub fn and(self, other: Worked) -> Worked
         ensures { result ≡ joined self other }
     {

@@ -48,7 +48,7 @@ fn serve_next_connection<R: Wait, K: Keeper, D: Door>(
     }
 }
 
-/// Whether a connection ended for lack of memory, this one or one before it.
+/// Returns whether a connection ended for lack of memory, this one or one before it.
 fn has_lacked(lacked: bool, ending: Ending) -> bool
     ensures { result ≡ (lacked || lacks ending) }
 {
@@ -63,8 +63,8 @@ fn has_lacked(lacked: bool, ending: Ending) -> bool
     }
 }
 
-/// How a worker ended whose door answered so at last, and of whose connections one ended
-/// for lack of memory or none did.
+/// Returns how a worker ended whose door gave this last answer; `lacked` says whether a connection ended for lack of
+/// memory.
 fn ended_by(lacked: bool, last: Last) -> Worked
     ensures { result ≡ ended_by lacked last }
 {
@@ -75,8 +75,8 @@ fn ended_by(lacked: bool, last: Last) -> Worked
     }
 }
 
-/// Serves the door's connections, each to its end before the next is asked for. A connection's
-/// fault ends that connection alone.
+/// Serves the door's connections, each to its end before the next is asked for. A connection's fault ends only that
+/// connection.
 pub(crate) fn serve_door<R: Wait, K: Keeper, D: Door>(
     server: &Server<'_, R, K>,
     pass: &mut Pass<Book<K>>,

@@ -1,6 +1,5 @@
-//! Each call of books, connections and workers that may run out of memory and that no case of `conformance`
-//! shows, once with ample memory; and what no clause says: two workers at once, the statuses by their numbers,
-//! and the answer to a lack of memory.
+//! Tests of books, connections and workers. Each call that may run out of memory and that no case shows, once with
+//! ample memory. Two workers at once, the statuses by their numbers, the answer to a lack of memory.
 #![tactic(auto)]
 
 #[cfg(test)]

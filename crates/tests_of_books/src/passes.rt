@@ -59,7 +59,7 @@ fn new_streams(alloc: Global) -> Result<Streams, AllocError> {
     })
 }
 
-/// A server of a book without rows, and the one pass of its lock.
+/// Returns a server of a book without rows, and the one pass of its lock.
 fn new_server<R: Wait>(
     rt: &R,
     alloc: Global,
@@ -75,7 +75,7 @@ fn new_server<R: Wait>(
     }
 }
 
-/// Serves a connection at the first moment, of whose clauses the pass's alone are told.
+/// Serves a connection at the first moment; only the clauses on the pass are told.
 fn serve<R: Wait>(
     server: &Server<'_, R, PlainKeeper>,
     pass: &mut Pass<Book<PlainKeeper>>,
@@ -91,7 +91,7 @@ fn serve<R: Wait>(
     let _ = serve_connection(server, pass, source, sink, &mut clock);
 }
 
-/// One of two passes submits a paper; joined with the other, it asks for the phase.
+/// Has one of two passes submit a paper, joins it with the other, and asks for the phase.
 fn join_and_ask<R: Wait>(
     server: &Server<'_, R, PlainKeeper>,
     mut pass: Pass<Book<PlainKeeper>>,
@@ -111,14 +111,15 @@ fn join_and_ask<R: Wait>(
     both
 }
 
-/// The length of the first user's view of a book that is closed then.
+/// Returns the length of the first user's view of a book that is closed then.
 fn view_len(book: Book<PlainKeeper>) -> Result<u64, AllocError> {
     let length = book.view_len(UserNo::new(1));
     let _ = book.close();
     length
 }
 
-/// Whether the last answer tells of the paper, how many answers were begun, and the length of the author's view.
+/// Returns whether the last answer tells of the paper, how many answers were begun, and the length of the author's
+/// view.
 fn told_by_joined_passes<R: Wait>(rt: &R, alloc: Global) -> Result<(bool, u64, u64), AllocError> {
     let mut streams = new_streams(alloc)?;
     let (server, pass) = new_server(rt, alloc)?;

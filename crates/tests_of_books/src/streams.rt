@@ -6,12 +6,12 @@ use std::alloc::{AllocError, Global};
 /// A request for the phase.
 pub(crate) const GET_PHASE: &str = "GET /phase HTTP/1.1\r\nHost: c\r\n\r\n";
 
-/// A source of this text.
+/// Returns a source of this text.
 pub(crate) fn source(alloc: Global, text: &str) -> Result<PlainSource, AllocError> {
     Ok(PlainSource::new(text.as_bytes().to_vec(alloc)?))
 }
 
-/// A sink with room for a few answers.
+/// Returns a sink with room for a few answers.
 pub(crate) fn sink(alloc: Global) -> Result<MemSink, AllocError> {
     MemSink::new(alloc, 4096, Vec::new(alloc), Vec::new(alloc))
 }

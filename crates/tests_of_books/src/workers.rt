@@ -23,7 +23,7 @@ const PHASE: &str = concat!(
     "{\"mode\":\"blind\",\"papers\":0,\"phase\":\"setup\"}",
 );
 
-/// Whether the flag is set by the last of so many looks.
+/// Returns whether the flag is set by the last of so many looks.
 fn is_set(flag: &AtomicBool, looks: u64) -> bool {
     for _ in 0..looks {
         if flag.load(Ordering::SeqCst) {
@@ -72,7 +72,7 @@ impl Source for HeldSource {
     }
 }
 
-/// Takes an answer, and then sets the flag, where it is to.
+/// Takes an answer, and then sets the flag, if it is to.
 struct FlagSink {
     sink: MemSink,
     flag: Arc<AtomicBool, Global>,
@@ -155,7 +155,7 @@ impl Door for OneDoor {
     }
 }
 
-/// A door of one connection.
+/// Returns a door of one connection.
 fn door(source: HeldSource, sink: FlagSink) -> OneDoor
     ensures left { is_some result.coming ≡ true }
     ensures back { result.is_out ≡ false }
@@ -167,7 +167,7 @@ fn door(source: HeldSource, sink: FlagSink) -> OneDoor
     }
 }
 
-/// Asks for the phase. Inside the request it waits for the flag, where it is to.
+/// Asks for the phase. Inside the request it waits for the flag, if it is to.
 fn request(
     alloc: Global,
     flag: &Arc<AtomicBool, Global>,
@@ -188,7 +188,7 @@ fn request(
     })
 }
 
-/// Takes the answer. It sets the flag then, where it is to.
+/// Takes the answer. It sets the flag then, if it is to.
 fn answer(
     alloc: Global,
     flag: &Arc<AtomicBool, Global>,
@@ -201,8 +201,8 @@ fn answer(
     })
 }
 
-/// A door whose connection asks for the phase. Its source waits for the flag inside the request where
-/// `waits`; else its sink sets the flag.
+/// Returns a door whose connection asks for the phase. Its source waits for the flag inside the request where `waits`;
+/// else its sink sets the flag.
 fn asks_phase(
     alloc: Global,
     flag: &Arc<AtomicBool, Global>,
@@ -215,7 +215,7 @@ fn asks_phase(
     Ok(door(source, sink))
 }
 
-/// Whether the door's connection was answered the phase of the empty history.
+/// Returns whether the door's connection was answered the phase of the empty history.
 fn is_answered(door: Option<&OneDoor>) -> bool {
     match door.and_then(|door| door.back.as_ref()) {
         Some(sink) => sink.sink.taken() == PHASE.as_bytes(),
@@ -223,7 +223,7 @@ fn is_answered(door: Option<&OneDoor>) -> bool {
     }
 }
 
-/// How two workers end, and whether the connections of both doors were answered.
+/// Returns how two workers end, and whether the connections of both doors were answered.
 fn serve_two<R: Threads + Wait + Sync>(
     rt: &R,
     alloc: Global,
@@ -241,7 +241,7 @@ fn serve_two<R: Threads + Wait + Sync>(
     Ok((worked, answered))
 }
 
-/// The same of two doors, of which the first's connection waits for the second's answer.
+/// Serves two doors, of which the first's connection waits for the second's answer.
 fn serve_both<R: Threads + Wait + Sync>(
     rt: &R,
     alloc: Global,

@@ -43,7 +43,7 @@ fn both(alloc: Global) -> Both {
     )
 }
 
-/// `confd pipe --store PATH`.
+/// Returns the words `confd pipe --store PATH`.
 fn words(alloc: Global, path: &str) -> Result<Vec<String>, AllocError> {
     let mut words = Vec::new(alloc);
     for word in ["confd", "pipe", "--store", path] {
@@ -52,7 +52,8 @@ fn words(alloc: Global, path: &str) -> Result<Vec<String>, AllocError> {
     Ok(words)
 }
 
-/// What these requests are answered over the store at the path; nothing where the run ends otherwise than well.
+/// Returns what these requests are answered over the store at the path; nothing where the run ends otherwise than
+/// well.
 fn answered<R: Threads + Wait + Sync>(
     rt: &R,
     alloc: Global,
@@ -97,7 +98,7 @@ fn both_paths_answer_alike(rt: HostRuntime) -> Result<(), Fail> {
     Ok(())
 }
 
-/// How many rows the image of a stop opens to.
+/// Returns how many rows the image of a stop opens to.
 fn rows_behind(alloc: Global, disk: &MemDisk, calls: usize, torn: Torn) -> Option<u64> {
     let image = image_behind(alloc, disk, calls, torn).ok()?;
     if image.len() > 1 << 20 {
@@ -108,7 +109,7 @@ fn rows_behind(alloc: Global, disk: &MemDisk, calls: usize, torn: Torn) -> Optio
     keeper.len().ok()
 }
 
-/// Whether each stop from the second call on leaves whole groups, and never fewer than a stop before it.
+/// Returns whether each stop from the second call on leaves whole groups, and never fewer than a stop before it.
 fn stops_well(alloc: Global, disk: &MemDisk, torn: Torn) -> bool {
     let mut most = 0;
     for calls in 2..disk.calls().len().saturating_add(1) {

@@ -3,18 +3,18 @@
 use cr_disks::{DiskCall, MemDisk};
 use std::alloc::{AllocError, Global};
 
-/// What stands in the ranges that weren't synced.
+/// What is in the ranges that weren't synced.
 #[derive(Clone, Copy)]
 pub enum Torn {
     /// What was written.
     Written,
-    /// What stood there before, and the old end.
+    /// What was there before, and the old end.
     Untouched,
     /// These bytes, again and again.
     Filled([u8; 8]),
     /// The first half of what was written, and then these bytes.
     HalfFilled([u8; 8]),
-    /// These bytes, and the end behind the first half of the range.
+    /// These bytes, and the end after the first half of the range.
     Short([u8; 8]),
 }
 
@@ -30,7 +30,7 @@ pub const PATTERNS: [[u8; 8]; 8] = [
     *b"CONFDJ01",
 ];
 
-/// The bytes with one byte at an offset, or behind the last where the offset is that.
+/// Returns the bytes with one byte at an offset, or after the last where the offset is that.
 fn set(bytes: &mut Vec<u8>, at: usize, value: u8) -> Result<(), AllocError> {
     if let Some(byte) = bytes.get_mut(at) {
         *byte = value;
@@ -66,7 +66,7 @@ fn tear(
     Ok(())
 }
 
-/// What a stop leaves behind the first calls of a disk, so many of them.
+/// Returns what a stop leaves after the first calls of a disk, so many of them.
 pub fn image_behind(
     alloc: Global,
     disk: &MemDisk,

@@ -8,7 +8,7 @@ use cr_ports::Keeper;
 use std::alloc::{AllocError, Global};
 use std::test::Fail;
 
-/// A disk of these bytes, with room for more than the tests take, whose listed calls fail.
+/// Returns a disk of these bytes, with room for more than the tests take, whose listed calls fail.
 fn disk_of(alloc: Global, bytes: Vec<u8>, failing: Vec<u64>) -> Result<MemDisk, AllocError> {
     if bytes.len() > 1 << 20 {
         return Err(AllocError);
@@ -16,13 +16,13 @@ fn disk_of(alloc: Global, bytes: Vec<u8>, failing: Vec<u64>) -> Result<MemDisk, 
     MemDisk::new(alloc, bytes, 1 << 16, 256, failing)
 }
 
-/// A new journal over a disk whose listed calls fail.
+/// Returns a new journal over a disk whose listed calls fail.
 fn new_journal(alloc: Global, failing: Vec<u64>) -> Option<JournalKeeper<MemDisk>> {
     let disk = disk_of(alloc, Vec::new(alloc), failing).ok()?;
     JournalKeeper::open(alloc, disk).ok()
 }
 
-/// The groups of the tests: one row, three rows, one row again.
+/// Returns the groups of the tests: one row, three rows, one row again.
 fn groups(alloc: Global) -> Result<Vec<Vec<Row>>, AllocError> {
     let mut groups = Vec::new(alloc);
     groups.push(Vec::from_array(alloc, [phase_set(1)])?)?;
@@ -34,7 +34,7 @@ fn groups(alloc: Global) -> Result<Vec<Vec<Row>>, AllocError> {
     Ok(groups)
 }
 
-/// Thirty groups: those three, ten times.
+/// Returns thirty groups: those three, ten times.
 fn thirty_groups(alloc: Global) -> Result<Vec<Vec<Row>>, AllocError> {
     let mut all = Vec::new(alloc);
     for _ in 0..10 {
@@ -64,7 +64,7 @@ fn a_phase_is_122_bytes(rt: HostRuntime) -> Result<(), Fail> {
     Ok(())
 }
 
-/// The row at a place, where there is one.
+/// Returns the row at a place, where there is one.
 fn row_at(keeper: &mut JournalKeeper<MemDisk>, at: u64) -> Option<Row> {
     if at >= keeper.len().ok()? {
         return None;
@@ -72,7 +72,7 @@ fn row_at(keeper: &mut JournalKeeper<MemDisk>, at: u64) -> Option<Row> {
     keeper.row(at).ok()
 }
 
-/// How many rows the bytes open to, where these are the first rows of `all`.
+/// Returns how many rows the bytes open to, where these are the first rows of `all`.
 fn opens_to(alloc: Global, bytes: Vec<u8>, all: &[Vec<Row>]) -> Option<usize> {
     let disk = disk_of(alloc, bytes, Vec::new(alloc)).ok()?;
     let mut keeper = JournalKeeper::open(alloc, disk).ok()?;
@@ -90,7 +90,7 @@ fn opens_to(alloc: Global, bytes: Vec<u8>, all: &[Vec<Row>]) -> Option<usize> {
     if at == len { Some(at as usize) } else { None }
 }
 
-/// Each way in which the ranges that weren't synced may be torn.
+/// Returns each way in which the ranges that weren't synced may be torn.
 fn ways(alloc: Global) -> Result<Vec<Torn>, AllocError> {
     let mut ways = Vec::new(alloc);
     ways.push(Torn::Written)?;
@@ -103,7 +103,7 @@ fn ways(alloc: Global) -> Result<Vec<Torn>, AllocError> {
     Ok(ways)
 }
 
-/// How many rows the first groups have, so many of them.
+/// Returns how many rows the first groups have, so many of them.
 fn rows_in(groups: &[Vec<Row>], many: usize) -> usize {
     let mut rows = 0usize;
     for group in groups.iter().take(many) {
@@ -112,8 +112,8 @@ fn rows_in(groups: &[Vec<Row>], many: usize) -> usize {
     rows
 }
 
-/// Whether so many rows may be found where the machine stopped behind so many calls of the disk: two made the journal,
-/// and each group took four, of which the third writes the gate and the fourth syncs it.
+/// Returns whether so many rows may be found where the machine stopped after so many calls of the disk: two made the
+/// journal, and each group took four, of which the third writes the gate and the fourth syncs it.
 fn may_be_found(groups: &[Vec<Row>], calls: usize, rows: usize) -> bool {
     let behind = calls.saturating_sub(2);
     let whole = behind / 4;
@@ -121,7 +121,7 @@ fn may_be_found(groups: &[Vec<Row>], calls: usize, rows: usize) -> bool {
     rows == rows_in(groups, whole) || (is_opening && rows == rows_in(groups, whole + 1))
 }
 
-/// Whether a stop behind so many calls, torn so, leaves what it may.
+/// Returns whether a stop after so many calls, torn so, leaves what it may.
 fn stops_well(
     alloc: Global,
     disk: &MemDisk,
@@ -134,7 +134,7 @@ fn stops_well(
     Some(may_be_found(groups, calls, rows))
 }
 
-/// The first stop from the second call on that leaves something else than it may.
+/// Returns the first stop from the second call on that leaves something else than it may.
 fn first_bad_stop(
     alloc: Global,
     disk: &MemDisk,
@@ -177,7 +177,8 @@ fn appends_with_one_failure(keeper: &mut JournalKeeper<MemDisk>, groups: &[Vec<R
         && keeper.append_all(third).is_ok()
 }
 
-/// How many calls of the disk there were, and how many rows its bytes open to, where the call number `failing` failed.
+/// Returns how many calls of the disk there were, and how many rows its bytes open to, if the call number `failing`
+/// failed.
 fn with_failing(alloc: Global, groups: &[Vec<Row>], failing: u64) -> Option<(usize, usize)> {
     let failing = Vec::from_array(alloc, [failing]).ok()?;
     let mut keeper = new_journal(alloc, failing)?;
@@ -224,7 +225,7 @@ fn a_full_disk_keeps_what_it_has_room_for(rt: HostRuntime) -> Result<(), Fail> {
     Ok(())
 }
 
-/// Whether the bytes are refused as no journal.
+/// Returns whether the bytes are refused as no journal.
 fn is_refused(alloc: Global, bytes: &[u8]) -> bool {
     let Ok(bytes) = bytes.to_vec(alloc) else {
         return false;

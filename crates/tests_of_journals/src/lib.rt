@@ -1,5 +1,5 @@
-//! Journals over disks in memory, with ample memory: the bytes of the file, and what opens once the machine stopped at
-//! each call of the disk.
+//! Tests of journals over disks in memory, with ample memory: the bytes of the file, and what opens once the machine
+//! stopped at each call of the disk.
 #![tactic(auto)]
 
 #[cfg(test)]

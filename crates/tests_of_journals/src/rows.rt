@@ -2,7 +2,7 @@
 use cr_base::{Blob, Row};
 use std::alloc::{AllocError, Global};
 
-/// The row of a phase that was set by user 1 at moment 0.
+/// Returns the row of a phase that was set by user 1 at moment 0.
 pub fn phase_set(phase: u64) -> Row {
     Row {
         kind: 3,
@@ -21,7 +21,7 @@ pub fn phase_set(phase: u64) -> Row {
     }
 }
 
-/// A row with three texts of bytes.
+/// Returns a row with three texts of bytes.
 pub fn with_texts(alloc: Global, number: u64) -> Result<Row, AllocError> {
     Ok(Row {
         kind: 14,

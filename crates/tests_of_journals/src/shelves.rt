@@ -6,7 +6,7 @@ use cr_ports::{Keeper, KeeperError, Shelf};
 use std::alloc::Global;
 use std::test::Fail;
 
-/// Disks with room for more than the tests take, whose listed calls fail, each disk's alike.
+/// Returns disks with room for more than the tests take, whose listed calls fail, each disk's alike.
 fn disks(alloc: Global, failing: Vec<u64>) -> MemDisks {
     MemDisks::new(alloc, 1 << 12, 64, failing)
 }
@@ -75,7 +75,7 @@ fn a_disk_that_fails_is_told(rt: HostRuntime) -> Result<(), Fail> {
     Ok(())
 }
 
-/// How many calls the record of a disk over the file at the path has when it is opened.
+/// Returns how many calls the record of a disk over the file at the path has when it is opened.
 fn recorded(disks: &mut MemDisks, path: &str) -> Result<usize, KeeperError> {
     let disk = disks.open(path)?;
     let many = disk.calls().len();

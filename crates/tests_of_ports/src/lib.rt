@@ -1,9 +1,8 @@
-//! Each call of ports, locks and sockets that may run out of memory, once with ample memory, and what no clause says:
-//! what adapters do over streams that fail, and 64 threads on one history.
+//! Tests of ports, locks and sockets: each call that may run out of memory, once with ample memory; what adapters do
+//! over streams that fail; 64 threads on one history.
 //!
-//! The tests of the crates stand in crates of their own, `tests_of_ports`, `tests_of_books`, `tests_of_stores` and
-//! `tests_of_journals`, since a crate with tests is proved a second time with them, and these are proved side by side.
-//! Whole runs are cases of the program `conformance`, and what a case shows has no test.
+//! Tests are in four crates of their own, since a crate with tests is proved twice, and these side by side. Whole runs
+//! are cases of the program `conformance`; what a case shows has no test.
 #![tactic(auto)]
 
 #[cfg(test)]

@@ -13,7 +13,7 @@ use std::thread::{Threads, join};
 /// How many turns each thread takes.
 const TURNS: u64 = 250;
 
-/// Who acted, and which of its acts it was.
+/// One act: the number of the thread, and which of its acts it was.
 #[derive(Clone, Copy)]
 struct Act {
     who: u64,
@@ -54,7 +54,7 @@ impl Acts {
     }
 }
 
-/// Puts a pass behind the others.
+/// Puts a pass after the others.
 fn keep(passes: &mut Vec<Pass<Acts>>, pass: Pass<Acts>) -> Result<(), AllocError>
     ensures { OnOk result (passes.new.items ≡ passes.old.items ++ pass ∷ []) }
 {
@@ -62,7 +62,7 @@ fn keep(passes: &mut Vec<Pass<Acts>>, pass: Pass<Acts>) -> Result<(), AllocError
     Ok(())
 }
 
-/// Splits the pass until each part has share 1, and puts the parts behind the others.
+/// Splits the pass until each part has share 1, and puts the parts after the others.
 fn spread(
     lock: &HistoryLock<Acts>,
     pass: Pass<Acts>,
@@ -82,7 +82,7 @@ fn spread(
     }
 }
 
-/// A pass of share 1, after a split that was refused.
+/// Returns a pass of share 1, after a split that was refused.
 fn refused(lock: &HistoryLock<Acts>, pass: Pass<Acts>) -> Pass<Acts>
     requires own { pass.lock ≡ lock.now.lock }
     requires last { pass.share ≡ 1 }
@@ -94,7 +94,7 @@ fn refused(lock: &HistoryLock<Acts>, pass: Pass<Acts>) -> Pass<Acts>
     pass
 }
 
-/// All passes in one, each after a split that was refused.
+/// Returns all passes in one, each after a split that was refused.
 fn gather(lock: &HistoryLock<Acts>, passes: Vec<Pass<Acts>>) -> Option<Pass<Acts>>
     requires { All (λ p. (p.lock ≡ lock.now.lock) × (p.share ≡ 1)) passes.items }
     ensures { IfSome result (λ p. (p.lock ≡ lock.now.lock) × (p.share ≡ length passes.items)) }
@@ -107,7 +107,7 @@ fn gather(lock: &HistoryLock<Acts>, passes: Vec<Pass<Acts>>) -> Option<Pass<Acts
     Some(all)
 }
 
-/// One thread's turns, and whether each found memory.
+/// Takes one thread's turns, and returns whether each found memory.
 fn act_often<R: Wait>(
     rt: &R,
     lock: &HistoryLock<Acts>,
@@ -131,8 +131,8 @@ fn act_often<R: Wait>(
     (pass, Ok(()))
 }
 
-/// A pass's turns, in as many threads as it has shares, and then one pass.
-/// A thread that halves its pass numbers the halves `2 * who` and `2 * who + 1`.
+/// Returns a pass's turns, in as many threads as it has shares, and then one pass. A thread that halves its pass
+/// numbers the halves `2 * who` and `2 * who + 1`.
 #[cycle(crowd)]
 fn act_in_crowd<R: Threads + Wait + Sync>(
     rt: &R,
@@ -161,8 +161,8 @@ fn act_in_crowd<R: Threads + Wait + Sync>(
     (lock.join(one, other), first.and(second))
 }
 
-/// The value of a lock that was made with no acts: the groups of the joined pass's turns, in order. It was begun for as
-/// many as at first.
+/// Returns the value of a lock that was made with no acts: the groups of the joined pass's turns, in order. It was
+/// begun for as many as at first.
 fn close_all(lock: HistoryLock<Acts>, pass: Pass<Acts>) -> Acts
     requires own { pass.lock ≡ lock.lock }
     requires whole { pass.share ≡ 64 }
@@ -173,7 +173,7 @@ fn close_all(lock: HistoryLock<Acts>, pass: Pass<Acts>) -> Acts
     lock.close(pass)
 }
 
-/// The turns of 64 threads, and then the value, with the turns that the joined pass counts.
+/// Returns the turns of 64 threads, and then the value, with the turns that the joined pass counts.
 fn act_in_all<R: Threads + Wait + Sync>(
     rt: &R,
     lock: HistoryLock<Acts>,
@@ -188,7 +188,7 @@ fn act_in_all<R: Threads + Wait + Sync>(
     Ok((close_all(lock, pass), turns))
 }
 
-/// A lock over no acts, and its one pass.
+/// Returns a lock over no acts, and its one pass.
 fn unused(alloc: Global) -> Result<(HistoryLock<Acts>, Pass<Acts>), AllocError>
     ensures own { IfOk result (λ made. made.1.lock ≡ made.0.lock) }
     ensures fresh { IfOk result (λ made. (made.1.share ≡ 64) × (made.1.turns ≡ 0) × (made.0.first.log.items ≡ [])) }

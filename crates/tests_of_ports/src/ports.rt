@@ -14,7 +14,7 @@ use std::io::{self, Cursor, Read, Write};
 use std::test::Fail;
 use std::time::{self, Duration};
 
-/// Three reads of at most four bytes each.
+/// Reads three times, at most four bytes each.
 fn reads<S: Source>(source: &mut S) -> [ReadStep; 3] {
     let mut buf = [0; 4];
     [
@@ -24,7 +24,7 @@ fn reads<S: Source>(source: &mut S) -> [ReadStep; 3] {
     ]
 }
 
-/// Three writes.
+/// Writes three times.
 fn writes<S: Sink>(sink: &mut S, pieces: [&[u8]; 3]) -> [WriteStep; 3] {
     let [first, second, third] = pieces;
     [sink.write(first), sink.write(second), sink.write(third)]
@@ -78,13 +78,13 @@ fn scripted_source(alloc: Global) -> Result<MemSource, AllocError> {
     Ok(MemSource::new(bytes, pieces, failing))
 }
 
-/// What it gives at six reads.
+/// Returns what it gives at six reads.
 fn scripted_reads(alloc: Global) -> Result<[[ReadStep; 3]; 2], AllocError> {
     let mut source = scripted_source(alloc)?;
     Ok([reads(&mut source), reads(&mut source)])
 }
 
-/// What the seven bytes give that no list cuts.
+/// Returns what the seven bytes give that no list cuts.
 fn plain_reads(alloc: Global) -> Result<[ReadStep; 3], AllocError> {
     let mut source = PlainSource::new(b"0123456".as_slice().to_vec(alloc)?);
     Ok(reads(&mut source))
@@ -115,8 +115,8 @@ fn scripted_sink(alloc: Global) -> Result<MemSink, AllocError> {
     MemSink::new(alloc, 6, pieces, failing)
 }
 
-/// What it answers to six writes, with an answer begun before them and one behind; and whether it has the six bytes
-/// and the two answers then.
+/// Returns what it answers to six writes, with an answer begun before them and one after; and whether it has the six
+/// bytes and the two answers then.
 fn scripted_writes(alloc: Global) -> Result<([[WriteStep; 3]; 2], bool), AllocError> {
     let mut sink = scripted_sink(alloc)?;
     sink.begin_answer();
@@ -150,12 +150,12 @@ fn writers(rt: HostRuntime) {
     assert!(rt; failing == [WriteStep::Took(2), WriteStep::Failed, WriteStep::Took(2)]);
 }
 
-/// The moment of so many seconds, which are one's.
+/// Returns the moment of so many seconds, which are one's.
 fn at(seconds: u64) -> Moment {
     Moment::new(seconds).unwrap_or(Moment::epoch())
 }
 
-/// A clock asked three times.
+/// Returns a clock asked three times.
 fn moments<C: Clock>(clock: &mut C) -> [ClockStep; 3] {
     [clock.now(), clock.now(), clock.now()]
 }
@@ -167,7 +167,7 @@ fn scripted_clock(alloc: Global) -> Result<MemClock, AllocError> {
     Ok(MemClock::new(moments, failing))
 }
 
-/// What it gives, asked six times; how many moments are left between, and how often it has failed at last.
+/// Returns what it gives, asked six times; how many moments are left between, and how often it has failed at last.
 fn scripted_moments(alloc: Global) -> Result<([[ClockStep; 3]; 2], usize, u64), AllocError> {
     let mut clock = scripted_clock(alloc)?;
     let first = moments(&mut clock);
@@ -194,7 +194,7 @@ fn clocks(rt: HostRuntime) -> Result<(), Fail> {
     Ok(())
 }
 
-/// A time that stands, or one that can't be read, as it is before 1970.
+/// A time that never moves, or one that can't be read, like one before 1970.
 #[derive(Clone, Copy)]
 struct SetTime {
     since_1970: Option<Duration>,
@@ -211,7 +211,7 @@ impl time::Clock for SetTime {
     }
 }
 
-/// What the adapter makes of such a time.
+/// Returns what the adapter makes of such a time.
 fn told_of(since_1970: Duration) -> ClockStep {
     let since_1970 = Some(since_1970);
     SystemClock::new(SetTime { since_1970 }).now()
@@ -231,7 +231,7 @@ fn system_clocks(rt: HostRuntime) {
     assert!(rt; SystemClock::new(rt).now() != ClockStep::Failed);
 }
 
-/// A row of this kind and nothing else.
+/// Returns a row of this kind and nothing else.
 fn row_of(kind: u64) -> Row {
     Row {
         kind,
@@ -258,7 +258,7 @@ fn keep<K: Keeper>(keeper: &mut K) -> Result<u64, KeeperError>
     keeper.len()
 }
 
-/// The kind of the second row, where there is one.
+/// Returns the kind of the second row, where there is one.
 fn second<K: Keeper>(keeper: &mut K) -> Result<u64, KeeperError> {
     if keeper.len()? < 2 {
         return Ok(0);
@@ -266,14 +266,14 @@ fn second<K: Keeper>(keeper: &mut K) -> Result<u64, KeeperError> {
     Ok(keeper.row(1)?.kind)
 }
 
-/// Its second append fails, and so do the second and the third of its other calls.
+/// Returns its second append fails, and so do the second and the third of its other calls.
 fn scripted_keeper(alloc: Global) -> Result<MemKeeper, AllocError> {
     let failing_appends = [1].as_slice().to_vec(alloc)?;
     let failing_reads = [1, 2].as_slice().to_vec(alloc)?;
     Ok(MemKeeper::new(alloc, failing_appends, failing_reads))
 }
 
-/// What becomes of three appends of two rows, how many are told then, twice, and the second row's kind.
+/// Returns what becomes of three appends of two rows, how many are told then, twice, and the second row's kind.
 fn kept_by<K: Keeper>(keeper: &mut K) -> [Result<u64, KeeperError>; 6] {
     [
         keep(keeper),
@@ -299,7 +299,7 @@ fn keepers(rt: HostRuntime) -> Result<(), Fail> {
     Ok(())
 }
 
-/// How many rows stand at the path.
+/// Returns how many rows are at the path.
 fn count_at<S: Shelf>(shelf: &mut S, path: &str) -> Result<u64, KeeperError> {
     let mut keeper = shelf.open(path)?;
     let count = keeper.len();
@@ -315,7 +315,7 @@ fn keep_at<S: Shelf>(shelf: &mut S, path: &str) -> Result<u64, KeeperError> {
     kept
 }
 
-/// What becomes of two appends of two rows at one path, how many stand there then, twice, and at another.
+/// Returns what becomes of two appends of two rows at one path, how many are there then, twice, and at another.
 fn kept_at<S: Shelf>(shelf: &mut S) -> [Result<u64, KeeperError>; 5] {
     [
         keep_at(shelf, "f"),
@@ -326,14 +326,14 @@ fn kept_at<S: Shelf>(shelf: &mut S) -> [Result<u64, KeeperError>; 5] {
     ]
 }
 
-/// Its third open fails, and so does the second append of each keeper.
+/// Returns its third open fails, and so does the second append of each keeper.
 fn scripted_shelf(alloc: Global) -> Result<MemShelf, AllocError> {
     let failing_opens = [2].as_slice().to_vec(alloc)?;
     let failing_appends = [1].as_slice().to_vec(alloc)?;
     Ok(MemShelf::new(alloc, failing_opens, failing_appends, Vec::new(alloc)))
 }
 
-/// What it tells, and how many rows stand at the first path.
+/// Returns what it tells, and how many rows are at the first path.
 fn kept_on_a_shelf(alloc: Global) -> Result<([Result<u64, KeeperError>; 5], usize), AllocError> {
     let mut shelf = scripted_shelf(alloc)?;
     let told = kept_at(&mut shelf);

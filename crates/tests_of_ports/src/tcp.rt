@@ -6,7 +6,7 @@ use std::alloc::Global;
 use std::test::Fail;
 use std::thread::Threads;
 
-/// How many doors were opened at this address; they are shut again.
+/// Returns how many doors were opened at this address; they are shut again.
 fn doors_at<R: Threads>(alloc: Global, gates: &mut TcpGates<R>, addr: &str) -> usize {
     match gates.open(alloc, addr, 2, 3) {
         Opened::Doors(doors) => {

@@ -1,5 +1,5 @@
-//! Stores over SQLite, once with ample memory: that rows come back as they were, also from a store of an older version,
-//! and what a reason's text is.
+//! Tests of stores over SQLite, with ample memory: rows come back unchanged, also from a store of an older version;
+//! the text of each reason.
 #![tactic(auto)]
 
 #[cfg(test)]

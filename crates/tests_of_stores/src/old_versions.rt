@@ -63,7 +63,7 @@ macro_rules! insert_into {
     };
 }
 
-/// The text that adds a row of this kind.
+/// Returns the text that adds a row of this kind.
 fn insert_of(from: OldVersion, kind: u64) -> &'static str {
     match kind {
         1..=4 | 18 => insert_into!("people", from),
@@ -77,7 +77,7 @@ fn run<S: Alter>(conn: &mut Connection<S>, text: &str) -> bool {
     conn.execute(text, &[]).is_ok()
 }
 
-/// The numbers of a row's columns, behind its place.
+/// Returns the numbers of a row's columns, after its place.
 fn numbers_of(row: &Row) -> Option<[i64; 9]> {
     let unsigned = [
         row.kind, row.maker, row.more, row.at, row.n1, row.n2, row.n3, row.n4, row.n5,
@@ -119,7 +119,7 @@ fn insert<S: Alter>(
     }
 }
 
-/// Whether a store of this version was made, with what it keeps of these rows.
+/// Returns whether a store of this version was made, with what it keeps of these rows.
 fn is_made<S: Alter>(conn: &mut Connection<S>, from: OldVersion, rows: &[Row]) -> bool {
     for text in texts_of(from) {
         if !run(conn, text) {
@@ -134,7 +134,7 @@ fn is_made<S: Alter>(conn: &mut Connection<S>, from: OldVersion, rows: &[Row]) -
     true
 }
 
-/// A database with a store of this version, with what it keeps of these rows.
+/// Returns a database with a store of this version, with what it keeps of these rows.
 fn made<D: Disk + Drop>(alloc: Global, log: D, db: D, from: OldVersion, rows: &[Row]) -> Option<D>
     requires { IsTrue (D.Disk.is_usable log) × IsTrue (D.Disk.is_usable db) }
     ensures { IfSome result (λ db. IsTrue (D.Disk.is_usable db)) }
@@ -150,7 +150,7 @@ fn number<S: Alter>(conn: &mut Connection<S>, sql: &str) -> Result<i64, Error> {
     conn.query_row(sql, &[])?.get(0)
 }
 
-/// The version that a store tells, and how many tables it has.
+/// Returns the version that a store tells, and how many tables it has.
 fn told_in<S: Alter>(conn: &mut Connection<S>) -> Result<(i64, i64), Error> {
     let version = number(conn, "SELECT version FROM meta")?;
     Ok((version, number(conn, "SELECT count(*) FROM sqlite_schema")?))
@@ -163,8 +163,8 @@ fn told<D: Disk + Drop>(alloc: Global, log: D, db: D) -> Option<(i64, i64)>
     told_in(&mut conn).ok()
 }
 
-/// What a store with the rows tells of itself, once it was opened as a store of an older version and then again, where
-/// these rows were found both times.
+/// Returns what a store with the rows tells of itself, once it was opened as a store of an older version and then
+/// again, where these rows were found both times.
 fn found_twice(alloc: Global, from: OldVersion, rows: &[Row], found: &[Row]) -> Option<(i64, i64)> {
     let db = made(alloc, Memory::new(alloc), Memory::new(alloc), from, rows)?;
     let db = visited(alloc, Memory::new(alloc), db, Task::Find(found))?;
@@ -172,7 +172,7 @@ fn found_twice(alloc: Global, from: OldVersion, rows: &[Row], found: &[Row]) -> 
     told(alloc, Memory::new(alloc), db)
 }
 
-/// The rows as a store of version 3 has them.
+/// Returns the rows as a store of version 3 has them.
 fn migrated(alloc: Global, from: OldVersion, rows: &[Row]) -> Result<Vec<Row>, AllocError> {
     let mut found = Vec::new(alloc);
     for row in rows {
@@ -181,8 +181,8 @@ fn migrated(alloc: Global, from: OldVersion, rows: &[Row]) -> Result<Vec<Row>, A
     Ok(found)
 }
 
-/// What a store tells of itself that had a row of each kind before `end`, once it was opened as a store of an older
-/// version and then again, where the rows were found both times as version 3 has them.
+/// Returns what a store tells of itself that had a row of each kind before `end`, once it was opened as a store of an
+/// older version and then again, if the rows were found both times as version 3 has them.
 fn told_later(alloc: Global, from: OldVersion, end: u64) -> Result<Option<(i64, i64)>, AllocError> {
     let rows = of_each_kind(alloc, end)?;
     let found = migrated(alloc, from, rows.as_slice())?;

@@ -15,7 +15,7 @@ const MOMENT: u64 = 784_111_777;
 /// 9999-12-31T23:59:59Z, the last moment.
 const LAST_MOMENT: u64 = 253_402_300_799;
 
-/// Alice is registered as user 1.
+/// Returns the row that registers Alice as user 1.
 fn registered(alloc: Global) -> Result<Row, AllocError> {
     let b1 = Blob::from_slice(alloc, b"alice".as_slice())?;
     let b2 = Blob::from_slice(alloc, DIGEST.as_slice())?;
@@ -36,7 +36,7 @@ fn registered(alloc: Global) -> Result<Row, AllocError> {
     })
 }
 
-/// And named chair.
+/// Returns the row that appoints Alice a chair.
 fn named() -> Row {
     Row {
         kind: 2,
@@ -55,7 +55,7 @@ fn named() -> Row {
     }
 }
 
-/// A row of this kind, with numbers that tell its fields apart, of a command without a number.
+/// Returns a row of this kind, with numbers that tell its fields apart, of a command without a number.
 pub(crate) fn of_kind(kind: u64) -> Row {
     Row {
         kind,
@@ -74,7 +74,7 @@ pub(crate) fn of_kind(kind: u64) -> Row {
     }
 }
 
-/// The first moment, the last, or one between them.
+/// Returns the first moment, the last, or one between them.
 fn moment_for(kind: u64) -> u64 {
     match kind % 3 {
         0 => 0,
@@ -83,7 +83,8 @@ fn moment_for(kind: u64) -> u64 {
     }
 }
 
-/// No command number, the first, the last, or one that no command has, each with its mark. A store keeps them all.
+/// Returns no command number, the first, the last, or one that no command has, each with its mark. A store keeps them
+/// all.
 fn key_for(alloc: Global, kind: u64) -> Result<(u64, Blob), AllocError> {
     match kind % 4 {
         0 => Ok((0, Blob::empty())),
@@ -99,7 +100,7 @@ fn key_for(alloc: Global, kind: u64) -> Result<(u64, Blob), AllocError> {
     }
 }
 
-/// A row of this kind, with numbers that tell its fields apart, of a command that may have a number.
+/// Returns a row of this kind, with numbers that tell its fields apart, of a command that may have a number.
 fn of_command(alloc: Global, kind: u64) -> Result<Row, AllocError> {
     let (num, mark) = key_for(alloc, kind)?;
     Ok(Row {
@@ -119,8 +120,8 @@ fn add_each_kind(alloc: Global, rows: &mut Vec<Row>, end: u64) -> Result<(), All
     Ok(())
 }
 
-/// The rows of a first registration, and a row of each kind before `end`, the last one first. A store takes the kinds
-/// before 23; one of version 2 took those before 19, one of version 1 those before 18.
+/// Returns the rows of a first registration, and a row of each kind before `end`, the last one first. A store takes
+/// the kinds before 23; one of version 2 took those before 19, one of version 1 those before 18.
 pub(crate) fn of_each_kind(alloc: Global, end: u64) -> Result<Vec<Row>, AllocError> {
     let mut rows = Vec::new(alloc);
     add_each_kind(alloc, &mut rows, end)?;

@@ -61,7 +61,7 @@ fn reads<S: Alter>(keeper: &mut SqliteKeeper<S>, at: u64, wanted: &Row) -> bool 
     }
 }
 
-/// Whether these are the keeper's rows.
+/// Returns whether these are the keeper's rows.
 fn reads_all<S: Alter>(keeper: &mut SqliteKeeper<S>, rows: &[Row]) -> bool {
     for (at, row) in (0..rows.len() as u64).zip(rows) {
         if !reads(keeper, at, row) {
@@ -75,8 +75,8 @@ fn appends<S: Alter>(keeper: &mut SqliteKeeper<S>, rows: &[Row]) -> bool {
     keeper.append_all(rows).is_ok()
 }
 
-/// What became of three appends, and how many rows there are behind each: of no row; of two rows, the second of a kind
-/// that no store takes; and of the first of them alone.
+/// Returns what became of three appends, and how many rows there are after each: of no row; of two rows, the second of
+/// a kind that no store takes; and of only the first of them.
 fn appended<S: Alter>(keeper: &mut SqliteKeeper<S>) -> [(bool, Option<u64>); 3] {
     let none = appends(keeper, &[]);
     let none_len = keeper.len().ok();
@@ -98,7 +98,7 @@ fn is_done<S: Alter>(keeper: &mut SqliteKeeper<S>, task: Task<'_>) -> bool {
     }
 }
 
-/// The connection, where the task is done in its database.
+/// Returns the connection, if the task is done in its database.
 fn done_in<S: Alter + Drop>(
     alloc: Global,
     conn: Connection<S>,
@@ -111,7 +111,7 @@ fn done_in<S: Alter + Drop>(
     Some(keeper.release())
 }
 
-/// The database, closed again, where the task is done in it.
+/// Returns the database, closed again, if the task is done in it.
 pub(crate) fn visited<D: Disk + Drop>(alloc: Global, log: D, db: D, task: Task<'_>) -> Option<D>
     requires { IsTrue (D.Disk.is_usable log) × IsTrue (D.Disk.is_usable db) }
     ensures { IfSome result (λ db. IsTrue (D.Disk.is_usable db)) }

@@ -13,12 +13,12 @@ use std::test::Fail;
 
 fn must_send<T: Send>(_: &T) {}
 
-/// A keeper over a file can be moved into a thread.
+/// Shows that a keeper over a file can be moved into a thread.
 fn file_keepers_are_send(keeper: &SqliteKeeper<FileStore<File>>) {
     must_send(keeper);
 }
 
-/// Whether rows that are kept in a database come back, once it was closed, with another log.
+/// Returns whether rows that are kept in a database come back, once it was closed, with another log.
 fn come_back<D: Disk + Drop>(alloc: Global, log: D, other: D, db: D, rows: &[Row]) -> bool
     requires { IsTrue (D.Disk.is_usable log) × IsTrue (D.Disk.is_usable other) × IsTrue (D.Disk.is_usable db) }
 {
@@ -61,7 +61,7 @@ fn is_told(alloc: Global, reason: Reason, text: &str) -> bool {
     }
 }
 
-/// The place of the first reason that has another text.
+/// Returns the place of the first reason that has another text.
 fn first_untold(alloc: Global, texts: &[(Reason, &str)]) -> Option<usize> {
     for (at, (reason, text)) in texts.iter().enumerate() {
         if !is_told(alloc, *reason, text) {
