@@ -1,5 +1,6 @@
 -- A walk over the papers that tells of those that are found.
-use Rattle.std.proofs.Common.{ℕ, Bool, true, false, cond, ◌≡◌, ◌&&◌, List, [], ◌∷◌, Option, Some, refl, sym}
+use Rattle.std.proofs.Common.{ℕ, Bool, true, false, cond, ◌≡◌, ◌&&◌, List, [], ◌∷◌, Option, Some}
+use Rattle.std.proofs.Common.{refl, sym, ap, ◌∙◌}
 use Rattle.std.specs.Prelude.{filter, is_some, map, unwrap_or}
 use Rattle.std.proofs.lemmas.Bool.{true≢false}
 use Rattle.cr_base.specs.declared.found.FoundPaper.{FoundPaper}
@@ -10,6 +11,8 @@ use Rattle.cr_base.specs.Papers.{paper_numbers, title_at}
 use Rattle.cr_base.specs.Searching.{found_paper, is_found, search_holds, term_holds}
 use Rattle.cr_base.specs.Sources.{facts_of_tables, is_accepted_in, shown_in_tables, standing_at}
 use Rattle.cr_base.specs.Tables.{Tables}
+use Rattle.cr_search_eval.specs.declared.asked.Asked.{Asked}
+use Rattle.cr_search_eval.specs.Asked.{asked_of, told_at}
 use Rattle.cr_search_eval.specs.Found.{papers_found, titled, told_to}
 
 -- where two are the same of each that passes a test, they are the same of all that do
@@ -23,6 +26,22 @@ those-same {A} test one other same (p ∷ ps) = by (test p) refl (those-same tes
         ≡ map other (cond b (p ∷ filter test ps) (filter test ps))
     by true is rest = λ i. same p is i ∷ rest i
     by false is rest = rest
+
+-- ---- one paper
+
+module _ (t : Tables) (user p : ℕ) (asked : Asked) (is : asked ≡ asked_of t user p) (search : List Step) where
+  -- what is said of it as it is asked of
+  found-at : (found : Bool) → found ≡ is_found (told_at t asked) search → found ≡ is_found (told_to t user p) search
+  found-at found h = h ∙ ap (λ (a : Asked). is_found (told_at t a) search) is
+
+  -- she is told its title, so the search decides
+  pub found-where : (title : List ℕ) (holds : Bool) → Some title ≡ (told_at t asked).page.title
+      → holds ≡ search_holds (term_holds (told_at t asked)) search → holds ≡ is_found (told_to t user p) search
+  found-where title holds told h =
+      found-at holds (h
+      ∙ ap (λ (o : Option (List ℕ)). is_some o && search_holds (term_holds (told_at t asked)) search) told)
+
+-- ---- all of them
 
 module _ (t : Tables) (user : ℕ) (search : List Step) where
   -- of a paper that is found the last title is told

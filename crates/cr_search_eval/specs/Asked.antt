@@ -1,9 +1,8 @@
 -- What a user who asks of a paper is told of it, by the tables.
 use Rattle.std.specs.Prelude.{ℕ, ◌≡◌, List, Option, Some}
-use Rattle.cr_base.specs.declared.search.Step.{Step}
 use Rattle.cr_base.specs.declared.words.Decision.{Decision}
 use Rattle.cr_base.specs.Page.{gets_abstract, gets_decision, gets_title, where_told}
-use Rattle.cr_base.specs.Searching.{PaperTold, search_holds, term_holds}
+use Rattle.cr_base.specs.Searching.{PaperTold}
 use Rattle.cr_base.specs.Tables.{Tables}
 use Rattle.cr_search_eval.specs.declared.asked.Asked.{Asked}
 use Rattle.cr_view.specs.Fields.{comments_told, response_told, reviews_told}

@@ -19,10 +19,10 @@ pub fn matches(live: &Live, user: UserNo, search: &Search, paper: PaperNo) -> bo
     ensures { result ≡ is_found (told_to live.now.tables user paper) search.now }
 {
     let asked = Asked::new(live, user, paper);
-    if asked.facts.title_told().is_none() {
-        return false;
+    match asked.facts.title_told() {
+        Some(_) => search_holds(live, &asked, search),
+        None => false,
     }
-    search_holds(live, &asked, search)
 }
 
 /// The papers that the search finds for the user, by number; an error only for lack of memory. A walk over all papers,
@@ -37,17 +37,23 @@ pub fn search(
 {
     let mut papers = Vec::new(alloc);
     for before in 0..live.paper_count() {
-        let paper = PaperNo::new(before + 1);
-        push_where(&mut papers, matches(live, user, search, paper), paper)?;
+        push_found(&mut papers, live, user, search, PaperNo::new(before + 1))?;
     }
     Ok(papers)
 }
 
 /// Adds the paper, where it is found; an error only for lack of memory.
-fn push_where(papers: &mut Vec<PaperNo>, found: bool, paper: PaperNo) -> Result<(), AllocError>
-    ensures { OnOk result (papers.new.items ≡ papers.old.items ++ given found paper) }
+fn push_found(
+    papers: &mut Vec<PaperNo>,
+    live: &Live,
+    user: UserNo,
+    search: &Search,
+    paper: PaperNo,
+) -> Result<(), AllocError>
+    ensures { OnOk result (papers.new.items
+        ≡ papers.old.items ++ given (is_found (told_to live.now.tables user paper) search.now) paper) }
 {
-    if found {
+    if matches(live, user, search, paper) {
         papers.push(paper)?;
     }
     Ok(())
@@ -90,8 +96,8 @@ pub fn found(
 {
     let papers = search(alloc, live, user, sought)?;
     let mut found = Vec::with_capacity(alloc, papers.len())?;
-    for paper in papers {
-        found.push(with_title(alloc, live, paper)?)?;
+    for paper in &papers {
+        found.push(with_title(alloc, live, *paper)?)?;
     }
     Ok(FoundPapers::from_vec(found))
 }
