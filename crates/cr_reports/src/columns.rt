@@ -1,4 +1,4 @@
-//! Columns: texts and numbers filled with spaces to a width. Each call has an error only for lack of memory.
+//! Columns: texts and numbers filled with spaces to a width. Each call's error is that memory ran out.
 ghost use Rattle.std.specs.Prelude.{◌≡◌, ◌++◌, OnOk, replicate};
 ghost use Rattle.cr_base.specs.Reports.{in_four, in_two, to_left, to_right};
 
@@ -16,7 +16,7 @@ fn append_spaces(into: &mut Vec<u8>, count: usize) -> Result<(), AllocError>
     Ok(())
 }
 
-/// Appends a text at the right of a column: spaces stand before it.
+/// Appends a text at the right of a column: spaces precede it.
 fn append_right(into: &mut Vec<u8>, width: usize, text: &[u8]) -> Result<(), AllocError>
     ensures { OnOk result (into.new.items ≡ into.old.items ++ to_right width text.now) }
 {
@@ -24,7 +24,7 @@ fn append_right(into: &mut Vec<u8>, width: usize, text: &[u8]) -> Result<(), All
     append(into, text)
 }
 
-/// Appends a text at the left of a column: spaces stand behind it.
+/// Appends a text at the left of a column: spaces follow it.
 pub(crate) fn append_left(into: &mut Vec<u8>, width: usize, text: &[u8]) -> Result<(), AllocError>
     ensures { OnOk result (into.new.items ≡ into.old.items ++ to_left width text.now) }
 {

@@ -1,5 +1,5 @@
-//! How much each user reviews, counted in place in one pass over the papers' seats: a load for each user by her
-//! number, and one for 0, which nobody has.
+//! How much each user reviews, counted in place in one pass over the papers' seats: a load for each user by
+//! number, and one for 0, which no user has.
 ghost use Rattle.std.specs.Prelude.{◌≡◌, ◌<◌, ◌+◌, ◌^◌, ℕ, IfOk, length, replicate};
 ghost use Rattle.cr_base.specs.Papers.{paper_numbers};
 ghost use Rattle.cr_base.specs.Reviews.{is_written_in};
@@ -14,7 +14,11 @@ use std::alloc::{AllocError, Global};
 /// How many loads there are.
 const LOADS: u64 = LAST_NUMBER + 1;
 
-/// Nothing for each user; an error only for lack of memory.
+/// Returns a load of nothing for each user.
+///
+/// # Errors
+///
+/// If memory runs out.
 fn no_loads(alloc: Global) -> Result<Vec<Load>, AllocError>
     ensures { IfOk result (λ loads. loads.items ≡ replicate 10000 no_load) }
 {
@@ -25,7 +29,7 @@ fn no_loads(alloc: Global) -> Result<Vec<Load>, AllocError>
     Ok(loads)
 }
 
-/// Counts a seat of the paper, unless somebody has left it.
+/// Counts a seat of the paper, unless its reviewer has left it.
 fn count_seat(loads: &mut [Load], live: &Live, paper: PaperNo, seat: &Tie<Seat>)
     requires long { length loads.old ≡ 10000 }
     requires few { AreFew (2 ^ 32) loads.old }
@@ -54,7 +58,7 @@ fn count_paper(loads: &mut [Load], live: &Live, paper: PaperNo)
     }
 }
 
-/// Counts the paper's seats, where the caller is in no conflict with it. Nothing else is read of the paper.
+/// Counts the paper's seats, if the caller is in no conflict with it. Nothing else is read of the paper.
 fn count_clear(loads: &mut [Load], live: &Live, caller: UserNo, paper: PaperNo)
     requires long { length loads.old ≡ 10000 }
     requires few { AreFew (2 ^ 31) loads.old }
@@ -71,9 +75,17 @@ fn count_clear(loads: &mut [Load], live: &Live, caller: UserNo, paper: PaperNo)
     count_paper(loads, live, paper);
 }
 
-/// How much each user reviews of the papers that the caller is in no conflict with; an error only for lack of memory.
+/// Returns how much each user reviews of the papers that the caller is in no conflict with. Takes 32 bytes for each
+/// number that a user may have.
+///
+/// # Errors
+///
+/// If memory runs out.
+///
+/// # Cost
+///
 /// One pass over all papers: of each what `is_conflicted` of `Ties` costs, and of those that count what `seats` of
-/// `Live` does, and for each seat what `is_written` does. Takes 32 bytes for each number that a user may have.
+/// `Live` does, and for each seat what `is_written` does.
 pub(crate) fn count_all(alloc: Global, live: &Live, caller: UserNo) -> Result<Vec<Load>, AllocError>
     ensures long { IfOk result (λ loads. length loads.items ≡ 10000) }
     ensures counted { IfOk result (λ loads. (user : ℕ) → user < 10000 → load_at loads.items user

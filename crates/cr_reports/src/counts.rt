@@ -13,12 +13,12 @@ pub(crate) struct Load {
     pub(crate) secondary: u64,
     /// Otherwise.
     pub(crate) pc: u64,
-    /// Of how many of these she has written a form.
+    /// Of how many of these the user has written a form.
     pub(crate) written: u64,
 }
 
 impl Load {
-    /// Nothing.
+    /// Returns the load of a user who reviews nothing.
     pub(crate) fn none() -> Load
         ensures { result ≡ no_load }
     {
@@ -30,7 +30,7 @@ impl Load {
         }
     }
 
-    /// One more assignment of this kind, of which a form is written or isn't.
+    /// Counts one more assignment of this kind, of which a form is written or isn't.
     pub(crate) fn add(&mut self, kind: Kind, written: bool)
         requires { IsFew (2 ^ 32) self.old }
         ensures { self.new ≡ with_form written (with_kind kind self.old) }

@@ -14,7 +14,7 @@ use cr_base::{Decision, PaperNo, Steps, UserNo};
 use cr_view::{Live, PaperFacts};
 use std::alloc::AllocError;
 
-/// A decision by its word, and where nothing was decided by that for none.
+/// Returns a decision's word, or the one for none if nothing was decided.
 pub(crate) fn decision_word(decision: &Option<Decision>) -> &'static str
     ensures { result.now ≡ decision_word decision.now }
 {
@@ -36,7 +36,7 @@ fn append_line(into: &mut Vec<u8>, facts: &PaperFacts<'_>) -> Result<(), AllocEr
     end_line(into)
 }
 
-/// The same, where it is told to the user, and counts the paper.
+/// Appends the line of a paper of which these are the facts, and counts it, if it is told to the user.
 fn append_open(
     into: &mut Vec<u8>,
     tally: &mut Tally,
@@ -62,7 +62,7 @@ fn append_open(
     Ok(())
 }
 
-/// Appends the line of a paper, where it is told to the user, and counts it. Its facts are read once.
+/// Appends the line of a paper, and counts it, if it is told to the user. Its facts are read once.
 fn append_paper(
     into: &mut Vec<u8>,
     tally: &mut Tally,

@@ -14,7 +14,7 @@ use cr_base::{MOST_LABELS, Ordinal, PaperNo, Short, Standing, Steps, UserNo, Wri
 use cr_view::Live;
 use std::alloc::AllocError;
 
-/// Appends who wrote a review, where that is told.
+/// Appends who wrote a review, if that is told.
 #[tactic(auto, unfolding(cr_base::specs::Reports::writer_named))]
 fn append_writer(into: &mut Vec<u8>, writer: &Option<Short>) -> Result<(), AllocError>
     ensures { OnOk result (into.new.items ≡ into.old.items ++ writer_named writer.now) }
@@ -26,7 +26,7 @@ fn append_writer(into: &mut Vec<u8>, writer: &Option<Short>) -> Result<(), Alloc
     append(into, name.as_slice())
 }
 
-/// Appends an empty line, and a form's label with its writer, where she is told.
+/// Appends an empty line, and a form's label with its writer, if told.
 #[tactic(auto, unfolding(crate::specs::ReportLines::form_heading))]
 fn append_heading(
     into: &mut Vec<u8>,
@@ -54,7 +54,7 @@ fn append_grades(into: &mut Vec<u8>, written: &WrittenForm) -> Result<(), AllocE
     end_line(into)
 }
 
-/// Appends a form: its label with its writer, where she is told, its grades, and what it tells authors.
+/// Appends a form: its label with its writer, if told, its grades, and what it tells authors.
 fn append_form(
     into: &mut Vec<u8>,
     label: Ordinal,
@@ -70,7 +70,7 @@ fn append_form(
     end_line(into)
 }
 
-/// Appends the last form under the label, where there is one.
+/// Appends the last form under the label, if there is one.
 fn append_label(
     into: &mut Vec<u8>,
     live: &Live,

@@ -4,14 +4,14 @@ ghost use Rattle.cr_reports.specs.ReportLines.{is_open_seen, titled};
 
 use cr_view::PaperFacts;
 
-/// Whether the user is in no conflict with the paper, and it isn't withdrawn. Reads no table.
+/// Returns whether the user is in no conflict with the paper, and it isn't withdrawn. Reads no table.
 pub(crate) fn is_open(facts: &PaperFacts<'_>) -> bool
     ensures { result ≡ is_open_seen facts.now }
 {
     !facts.by().conflicted && !facts.is_withdrawn()
 }
 
-/// The paper's last title; no bytes where there is no such paper. Reads no table.
+/// Returns the paper's last title; no bytes if there is no such paper. Reads no table.
 pub(crate) fn title<'a>(facts: &PaperFacts<'a>) -> &'a [u8]
     ensures { result.now ≡ titled facts.now }
 {

@@ -32,7 +32,7 @@ fn append_line(into: &mut Vec<u8>, line: &AccountLine, load: &Load) -> Result<()
     end_line(into)
 }
 
-/// Appends the line of an account, where it is a member's.
+/// Appends the line of an account, if it is a member's.
 fn append_member(into: &mut Vec<u8>, loads: &[Load], line: &AccountLine) -> Result<(), AllocError>
     requires { length loads.now ≡ 10000 }
     ensures text { OnOk result (into.new.items ≡ into.old.items ++ member_line loads.now line.now) }
@@ -45,7 +45,7 @@ fn append_member(into: &mut Vec<u8>, loads: &[Load], line: &AccountLine) -> Resu
     append_line(into, line, &loads[index])
 }
 
-/// Appends the line of each member, by user number; takes memory for the accounts and the loads besides.
+/// Appends the line of each member, by user number. Takes memory for the accounts and the loads besides.
 pub(crate) fn append_loads(
     into: &mut Vec<u8>,
     alloc: Global,

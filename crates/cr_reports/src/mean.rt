@@ -5,7 +5,8 @@ ghost use Rattle.cr_base.specs.Reports.{hundredths, two_decimals};
 use crate::put::{append, append_number};
 use std::alloc::AllocError;
 
-/// The mean of so many scores with this sum, in hundredths: rounded to the nearest one, and up where two are as near.
+/// Returns the mean of so many scores with this sum, in hundredths: rounded to the nearest one, and up if two are as
+/// near.
 pub(crate) fn hundredths(sum: u64, count: u64) -> u64
     requires low { 1 ≤ count }
     requires high { count ≤ 26 }
@@ -15,7 +16,11 @@ pub(crate) fn hundredths(sum: u64, count: u64) -> u64
     (200 * sum + count) / (2 * count)
 }
 
-/// Appends hundredths as a number with two decimals; an error only for lack of memory.
+/// Appends hundredths as a number with two decimals.
+///
+/// # Errors
+///
+/// If memory runs out.
 #[tactic(auto, unfolding(cr_base::specs::Reports::two_decimals))]
 pub(crate) fn append_two_decimals(into: &mut Vec<u8>, hundredths: u64) -> Result<(), AllocError>
     ensures { OnOk result (into.new.items ≡ into.old.items ++ two_decimals hundredths) }

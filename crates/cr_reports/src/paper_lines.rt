@@ -11,7 +11,7 @@ use cr_base::{PaperNo, Steps, UserNo};
 use cr_view::{Live, PaperFacts};
 use std::alloc::AllocError;
 
-/// The mark of a paper that is withdrawn or isn't, and with which the caller is in conflict or isn't.
+/// Returns the mark of a paper that is withdrawn or isn't, and with which the caller is in conflict or isn't.
 #[tactic(auto, unfolding(cr_base::specs::Reports::paper_mark))]
 fn mark(withdrawn: bool, conflicted: bool) -> &'static str
     ensures { result.now ≡ paper_mark withdrawn conflicted }

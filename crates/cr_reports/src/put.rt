@@ -1,4 +1,4 @@
-//! Bytes appended to a report. Each call has an error only for lack of memory.
+//! Bytes appended to a report. Each call's error is that memory ran out.
 ghost use Rattle.std.specs.Prelude.{◌≡◌, ◌++◌, OnOk, decimal};
 ghost use Rattle.cr_base.specs.Reports.{line_end, space};
 

@@ -10,9 +10,15 @@ use cr_base::{Blob, Reply, Report, UserNo};
 use cr_view::{AnswerError, Live};
 use std::alloc::Global;
 
-/// What a caller is answered to her query of a report: it, or the first broken rule, which comes whatever memory
-/// there is; an error for lack of memory only where no rule is broken. It costs what `papers`, `scores`, `load`,
-/// `decisions` or `letter` does.
+/// Returns what a caller is answered to their query of a report.
+///
+/// # Errors
+///
+/// The first broken rule, whatever memory there is. If none is broken, that memory runs out.
+///
+/// # Cost
+///
+/// What `papers`, `scores`, `load`, `decisions` or `letter` costs.
 pub fn answer(
     alloc: Global,
     live: &Live,
@@ -31,7 +37,7 @@ pub fn answer(
     }
 }
 
-/// The report, or the first broken rule.
+/// Returns the report, or the first broken rule.
 fn told(alloc: Global, live: &Live, user: UserNo, report: &Report) -> Result<Blob, AnswerError>
     ensures { ShowsAsDue result (report_due live.now.tables user report.now) }
 {

@@ -35,7 +35,7 @@ fn append_scored(
     end_line(into)
 }
 
-/// Appends the line of a paper of which these are the facts, where it has scores.
+/// Appends the line of a paper of which these are the facts, if it has scores.
 #[tactic(auto, using(crate::proofs::OpenLaws::scores_some, crate::proofs::OpenLaws::scores_none))]
 fn append_line(into: &mut Vec<u8>, live: &Live, facts: &PaperFacts<'_>) -> Result<(), AllocError>
     ensures { OnOk result (into.new.items
@@ -48,7 +48,8 @@ fn append_line(into: &mut Vec<u8>, live: &Live, facts: &PaperFacts<'_>) -> Resul
     append_scored(into, facts.paper(), &scores, title(facts))
 }
 
-/// The same, where it is told to the user. Scores are read of no other paper.
+/// Appends the line of a paper of which these are the facts, if it is told to the user and has scores. Scores are read
+/// of no other paper.
 fn append_open(into: &mut Vec<u8>, live: &Live, facts: &PaperFacts<'_>) -> Result<(), AllocError>
     ensures { OnOk result (into.new.items
         ≡ into.old.items ++ (if is_open_seen facts.now
@@ -60,7 +61,7 @@ fn append_open(into: &mut Vec<u8>, live: &Live, facts: &PaperFacts<'_>) -> Resul
     append_line(into, live, facts)
 }
 
-/// Appends the line of a paper, where it is told to the user and has scores. Its facts are read once.
+/// Appends the line of a paper, if it is told to the user and has scores. Its facts are read once.
 fn append_paper(
     into: &mut Vec<u8>,
     live: &Live,

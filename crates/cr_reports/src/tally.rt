@@ -17,7 +17,7 @@ pub(crate) struct Tally {
 }
 
 impl Tally {
-    /// One more paper, with this decision.
+    /// Counts one more paper, with this decision.
     pub(crate) fn add(&mut self, decision: &Option<Decision>)
         requires accepted { self.old.accepted < 2 ^ 32 }
         requires rejected { self.old.rejected < 2 ^ 32 }

@@ -1,5 +1,5 @@
-//! The five reports, each told or refused by the rule that stands in its way, which takes no memory. Each has an error
-//! for lack of memory only where no rule is broken. A title costs its bytes.
+//! The five reports, each told or refused by the first broken rule, which takes no memory. An error says that memory
+//! ran out only if no rule is broken. A title costs its bytes.
 ghost use Rattle.std.specs.Prelude.{◌≡◌, IfOk, Some};
 ghost use Rattle.cr_base.specs.Reports.{report_told};
 ghost use Rattle.cr_base.specs.Sources.{facts_of_tables, shown_in_tables};
@@ -16,9 +16,16 @@ use cr_base::{Blob, PaperNo, Report, Rule, UserNo};
 use cr_view::{AnswerError, Live};
 use std::alloc::{AllocError, Global};
 
-/// All papers by number, a line each, and how many there are: a paper's number, whether it is withdrawn, else whether
-/// the user is in conflict with it, and its title; or the first broken rule: `NotMember`; `WrongPhase` before the
-/// bidding. One pass over all papers: of each what `facts` of `Live` costs, once.
+/// Returns all papers by number, a line each, and how many there are: a paper's number, whether it is withdrawn, else
+/// whether the user is in conflict with it, and its title.
+///
+/// # Errors
+///
+/// The first broken rule: `NotMember`; `WrongPhase` before the bidding. If none is broken, that memory runs out.
+///
+/// # Cost
+///
+/// One pass over all papers: of each what `facts` of `Live` costs, once.
 pub fn papers(alloc: Global, live: &Live, user: UserNo) -> Result<Blob, AnswerError>
     ensures { ShowsAsDue result (report_due live.now.tables user reports.Papers) }
 {
@@ -29,7 +36,11 @@ pub fn papers(alloc: Global, live: &Live, user: UserNo) -> Result<Blob, AnswerEr
     Ok(papers_text(alloc, live, user)?)
 }
 
-/// The text of the report of all papers; an error only for lack of memory.
+/// Returns the text of the report of all papers.
+///
+/// # Errors
+///
+/// If memory runs out.
 fn papers_text(alloc: Global, live: &Live, user: UserNo) -> Result<Blob, AllocError>
     ensures { IfOk result (λ text. text
         ≡ report_told (facts_of_tables live.now.tables (Some user)) (shown_in_tables live.now.tables) reports.Papers) }
@@ -39,10 +50,17 @@ fn papers_text(alloc: Global, live: &Live, user: UserNo) -> Result<Blob, AllocEr
     Ok(Blob::from_vec(text)?)
 }
 
-/// The scores of each paper that isn't withdrawn, has a form and isn't in conflict with the user, a line each: its
-/// number, how many labels have a form, the mean of their last scores, and its title; or the first broken rule:
-/// `NotMember`; `WrongPhase` before the discussion. One pass over all papers: of each what `facts` of `Live` costs,
-/// once, and of those that are told what `scores` of `Live` costs.
+/// Returns the scores of each paper that isn't withdrawn, has a form and isn't in conflict with the user, a line each:
+/// its number, how many labels have a form, the mean of their last scores, and its title.
+///
+/// # Errors
+///
+/// The first broken rule: `NotMember`; `WrongPhase` before the discussion. If none is broken, that memory runs out.
+///
+/// # Cost
+///
+/// One pass over all papers: of each what `facts` of `Live` costs, once, and of those that are told what `scores` of
+/// `Live` costs.
 pub fn scores(alloc: Global, live: &Live, user: UserNo) -> Result<Blob, AnswerError>
     ensures { ShowsAsDue result (report_due live.now.tables user reports.Scores) }
 {
@@ -53,7 +71,11 @@ pub fn scores(alloc: Global, live: &Live, user: UserNo) -> Result<Blob, AnswerEr
     Ok(scores_text(alloc, live, user)?)
 }
 
-/// The text of the report of the scores; an error only for lack of memory.
+/// Returns the text of the report of the scores.
+///
+/// # Errors
+///
+/// If memory runs out.
 fn scores_text(alloc: Global, live: &Live, user: UserNo) -> Result<Blob, AllocError>
     ensures { IfOk result (λ text. text
         ≡ report_told (facts_of_tables live.now.tables (Some user)) (shown_in_tables live.now.tables) reports.Scores) }
@@ -63,11 +85,18 @@ fn scores_text(alloc: Global, live: &Live, user: UserNo) -> Result<Blob, AllocEr
     Ok(Blob::from_vec(text)?)
 }
 
-/// How much each member reviews of the papers that the user is in no conflict with, a line each by user number: her
-/// name, how many as primary, as secondary and as other reviewer, and of how many of them she has written a form.
-/// Withdrawn papers count. Or the first broken rule: `NotChair`; `WrongPhase` before the bidding. One pass over all
-/// papers, of each whether the user is in conflict with it, and of the others over their seats, with a walk over the
-/// paper's forms for each seat; and one over the accounts.
+/// Returns how much each member reviews of the papers that the user is in no conflict with, a line each by user number:
+/// the member's name, how many as primary, as secondary and as other reviewer, and of how many of them a form is
+/// written. Withdrawn papers count.
+///
+/// # Errors
+///
+/// The first broken rule: `NotChair`; `WrongPhase` before the bidding. If none is broken, that memory runs out.
+///
+/// # Cost
+///
+/// One pass over all papers, of each whether the user is in conflict with it, and of the others over their seats, with
+/// a walk over the paper's forms for each seat; and one over the accounts.
 pub fn load(alloc: Global, live: &Live, user: UserNo) -> Result<Blob, AnswerError>
     ensures { ShowsAsDue result (report_due live.now.tables user reports.Load) }
 {
@@ -78,7 +107,11 @@ pub fn load(alloc: Global, live: &Live, user: UserNo) -> Result<Blob, AnswerErro
     Ok(load_text(alloc, live, user)?)
 }
 
-/// The text of the report of how much members review; an error only for lack of memory.
+/// Returns the text of the report of how much members review.
+///
+/// # Errors
+///
+/// If memory runs out.
 fn load_text(alloc: Global, live: &Live, user: UserNo) -> Result<Blob, AllocError>
     ensures { IfOk result (λ text. text
         ≡ report_told (facts_of_tables live.now.tables (Some user)) (shown_in_tables live.now.tables) reports.Load) }
@@ -88,9 +121,16 @@ fn load_text(alloc: Global, live: &Live, user: UserNo) -> Result<Blob, AllocErro
     Ok(Blob::from_vec(text)?)
 }
 
-/// The decision on each paper that isn't withdrawn and isn't in conflict with the user, a line each: its number, the
-/// decision and its title; and how many papers there are of each decision. Or the first broken rule: `NotMember`;
-/// `WrongPhase` before the discussion. One pass over all papers: of each what `facts` of `Live` costs, once.
+/// Returns the decision on each paper that isn't withdrawn and isn't in conflict with the user, a line each: its
+/// number, the decision and its title; and how many papers there are of each decision.
+///
+/// # Errors
+///
+/// The first broken rule: `NotMember`; `WrongPhase` before the discussion. If none is broken, that memory runs out.
+///
+/// # Cost
+///
+/// One pass over all papers: of each what `facts` of `Live` costs, once.
 pub fn decisions(alloc: Global, live: &Live, user: UserNo) -> Result<Blob, AnswerError>
     ensures { ShowsAsDue result (report_due live.now.tables user reports.Decisions) }
 {
@@ -101,7 +141,11 @@ pub fn decisions(alloc: Global, live: &Live, user: UserNo) -> Result<Blob, Answe
     Ok(decisions_text(alloc, live, user)?)
 }
 
-/// The text of the report of the decisions; an error only for lack of memory.
+/// Returns the text of the report of the decisions.
+///
+/// # Errors
+///
+/// If memory runs out.
 fn decisions_text(alloc: Global, live: &Live, user: UserNo) -> Result<Blob, AllocError>
     ensures { IfOk result (λ text. text
         ≡ report_told (facts_of_tables live.now.tables (Some user)) (shown_in_tables live.now.tables)
@@ -112,10 +156,17 @@ fn decisions_text(alloc: Global, live: &Live, user: UserNo) -> Result<Blob, Allo
     Ok(Blob::from_vec(text)?)
 }
 
-/// The letter to the authors of a paper: its number and title, the decision, and the last form under each label as
-/// authors are told it, with its writer's name where authors are told that; or the first broken rule: `NoPaper` where
-/// there is no such paper, or none is told; `NotAuthor`; `WrongPhase` before the notification. The paper's facts, once,
-/// and a walk over its forms for each label, of which there are 26 at most.
+/// Returns the letter to the authors of a paper: its number and title, the decision, and the last form under each label
+/// as authors are told it, with its writer's name if authors are told that.
+///
+/// # Errors
+///
+/// The first broken rule: `NoPaper` if there is no such paper, or none is named; `NotAuthor`; `WrongPhase` before the
+/// notification. If none is broken, that memory runs out.
+///
+/// # Cost
+///
+/// The paper's facts, once, and a walk over its forms for each label, of which there are 26 at most.
 pub fn letter(
     alloc: Global,
     live: &Live,
@@ -130,7 +181,7 @@ pub fn letter(
     letter_on(alloc, live, user, *paper)
 }
 
-/// The same on a paper of this number.
+/// Returns the letter to the authors of the paper of this number, or the first broken rule.
 fn letter_on(alloc: Global, live: &Live, user: UserNo, paper: PaperNo) -> Result<Blob, AnswerError>
     ensures { ShowsAsDue result (report_due live.now.tables user (reports.Letter (Some paper))) }
 {
@@ -141,7 +192,11 @@ fn letter_on(alloc: Global, live: &Live, user: UserNo, paper: PaperNo) -> Result
     Ok(letter_text(alloc, live, user, paper)?)
 }
 
-/// The text of the letter; an error only for lack of memory.
+/// Returns the text of the letter.
+///
+/// # Errors
+///
+/// If memory runs out.
 fn letter_text(alloc: Global, live: &Live, user: UserNo, paper: PaperNo) -> Result<Blob, AllocError>
     ensures { IfOk result (λ text. text
         ≡ report_told (facts_of_tables live.now.tables (Some user)) (shown_in_tables live.now.tables)

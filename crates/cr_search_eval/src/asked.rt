@@ -10,12 +10,16 @@ use cr_view::{Live, PaperFacts};
 pub(crate) struct Asked<'a> {
     /// Who asks.
     pub(crate) user: UserNo,
-    /// What is asked of the paper for her.
+    /// What is asked of the paper for them.
     pub(crate) facts: PaperFacts<'a>,
 }
 
 impl<'a> Asked<'a> {
-    /// The paper, as the user asks of it. It costs what `facts` of the tables does.
+    /// Returns the paper, as the user asks of it.
+    ///
+    /// # Cost
+    ///
+    /// What `facts` of `Live` costs.
     pub(crate) fn new(live: &'a Live, user: UserNo, paper: PaperNo) -> Asked<'a>
         ensures { result ≡ asked_of live.now.tables user paper }
     {

@@ -10,9 +10,8 @@ use crate::terms::term_holds;
 use cr_base::{Search, Step};
 use cr_view::Live;
 
-/// Whether the search holds of the paper; the empty one does. A term is tried where the truth
-/// isn't known by those before it;
-/// takes no memory.
+/// Returns whether the search holds of the paper; the empty one does. A term is tried only if the truth isn't known by
+/// those before it. Takes no memory.
 pub(crate) fn search_holds(live: &Live, asked: &Asked<'_>, search: &Search) -> bool
     requires { IsAsked live.now.tables asked.now }
     ensures { result ≡ search_holds (term_holds (told_at live.now.tables asked.now)) search.now }
@@ -21,7 +20,7 @@ pub(crate) fn search_holds(live: &Live, asked: &Asked<'_>, search: &Search) -> b
     steps.is_empty() || steps_hold(live, asked, steps)
 }
 
-/// The steps of the two operands of the last step: those of the second one, so many, stand right before it.
+/// Returns the steps of the two operands of the last step: those of the second one, so many, come right before it.
 fn operands(steps: &[Step], second: u16) -> (&[Step], &[Step])
     requires { second + 1 ≤ length steps.now }
     ensures first { result.0.now ≡ take (length steps.now - 1 - second) (take (length steps.now - 1) steps.now) }
@@ -33,7 +32,7 @@ fn operands(steps: &[Step], second: u16) -> (&[Step], &[Step])
     steps[..before].split_at(before - usize::from(second))
 }
 
-/// Whether the search that these steps spell holds: the last one is its operation, behind its operands.
+/// Returns whether the search that these steps spell holds: the last one is its operation, after its operands.
 fn steps_hold(live: &Live, asked: &Asked<'_>, steps: &[Step]) -> bool
     requires asked { IsAsked live.now.tables asked.now }
     requires spelled { Spelled steps.now }

@@ -12,9 +12,12 @@ use cr_base::{FoundPaper, FoundPapers, PaperNo, Reply, Search, UserNo};
 use cr_view::Live;
 use std::alloc::{AllocError, Global};
 
-/// Whether the search finds the paper for the user: she is told its title, and the search holds of what she is told of
-/// it. Without a title no term is tried. It costs what `facts` of the tables does, and for each term that decides it
-/// what its field costs beside; takes no memory.
+/// Returns whether the search finds the paper for the user: the user is told its title, and the search holds of what
+/// they are told of it. Without a title no term is tried. Takes no memory.
+///
+/// # Cost
+///
+/// What `facts` of `Live` costs, and for each term that is tried what its field costs.
 pub fn matches(live: &Live, user: UserNo, search: &Search, paper: PaperNo) -> bool
     ensures { result ≡ is_found (told_to live.now.tables user paper) search.now }
 {
@@ -25,8 +28,15 @@ pub fn matches(live: &Live, user: UserNo, search: &Search, paper: PaperNo) -> bo
     }
 }
 
-/// The papers that the search finds for the user, by number; an error only for lack of memory. A walk over all papers,
-/// each of which costs what `matches` does.
+/// Returns the papers that the search finds for the user, by number.
+///
+/// # Errors
+///
+/// If memory runs out.
+///
+/// # Cost
+///
+/// A walk over all papers, each of which costs what `matches` does.
 pub fn search(
     alloc: Global,
     live: &Live,
@@ -42,7 +52,11 @@ pub fn search(
     Ok(papers)
 }
 
-/// Adds the paper, where it is found; an error only for lack of memory.
+/// Adds the paper, if it is found.
+///
+/// # Errors
+///
+/// If memory runs out.
 fn push_found(
     papers: &mut Vec<PaperNo>,
     live: &Live,
@@ -59,7 +73,7 @@ fn push_found(
     Ok(())
 }
 
-/// How many papers that is: 1, or none.
+/// Returns 1 if the paper is found, else 0.
 fn count_one(live: &Live, user: UserNo, search: &Search, paper: PaperNo) -> u64
     ensures value { result ≡ length (given (is_found (told_to live.now.tables user paper) search.now) paper) }
     ensures few { result ≤ 1 }
@@ -70,7 +84,11 @@ fn count_one(live: &Live, user: UserNo, search: &Search, paper: PaperNo) -> u64
     0
 }
 
-/// How many papers the search finds for the user. The same walk; takes no memory.
+/// Returns how many papers the search finds for the user. Takes no memory.
+///
+/// # Cost
+///
+/// A walk over all papers, each of which costs what `matches` does.
 pub fn count(live: &Live, user: UserNo, search: &Search) -> u64
     ensures { result ≡ length (papers_found live.now.tables user search.now) }
 {
@@ -81,9 +99,16 @@ pub fn count(live: &Live, user: UserNo, search: &Search) -> u64
     count
 }
 
-/// The papers that the search finds for the user, by number, each with its last title; an error only for lack of
-/// memory. It costs what `search` does, and one look-up for each that is found. Shares the titles, and takes no memory
-/// but for the answer.
+/// Returns the papers that the search finds for the user, by number, each with its last title. Shares the titles, and
+/// takes no memory except the numbers and the answer.
+///
+/// # Errors
+///
+/// If memory runs out.
+///
+/// # Cost
+///
+/// What `search` costs, and one look-up for each paper that is found.
 pub fn found(
     alloc: Global,
     live: &Live,
@@ -102,7 +127,11 @@ pub fn found(
     Ok(FoundPapers::from_vec(found))
 }
 
-/// The paper with its last title; an error only for lack of memory.
+/// Returns the paper with its last title.
+///
+/// # Errors
+///
+/// If memory runs out.
 fn with_title(alloc: Global, live: &Live, paper: PaperNo) -> Result<FoundPaper, AllocError>
     ensures { IfOk result (λ found. found ≡ titled live.now.tables paper) }
 {
@@ -110,7 +139,11 @@ fn with_title(alloc: Global, live: &Live, paper: PaperNo) -> Result<FoundPaper, 
     Ok(FoundPaper { paper, title })
 }
 
-/// What a caller is answered to a search, the papers or how many there are; an error only for lack of memory.
+/// Returns what a caller is answered to a search: the papers, or how many there are.
+///
+/// # Errors
+///
+/// If memory runs out.
 pub fn answer(
     alloc: Global,
     live: &Live,

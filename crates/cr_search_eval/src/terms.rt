@@ -15,8 +15,12 @@ use crate::text::contains;
 use cr_base::{Blob, Decision, Feature, Seat, Short, Standing, Status, Term, Text, Tie};
 use cr_view::Live;
 
-/// Whether the term holds of the paper. It costs the one read that the field which it names does, if it does (see
-/// `Live`), and a look at each byte of the texts that it looks into; takes no memory.
+/// Returns whether the term holds of the paper. Takes no memory.
+///
+/// # Cost
+///
+/// The one read that the field which it names costs, if it does (see `Live`), and a look at each byte of the texts that
+/// it looks into.
 pub(crate) fn term_holds(live: &Live, asked: &Asked<'_>, term: &Term) -> bool
     requires { IsAsked live.now.tables asked.now }
     ensures { result ≡ term_holds (told_at live.now.tables asked.now) term.now }
@@ -34,21 +38,21 @@ pub(crate) fn term_holds(live: &Live, asked: &Asked<'_>, term: &Term) -> bool
     }
 }
 
-/// Whether the title has the value.
+/// Returns whether the title has the value.
 fn in_title(asked: &Asked<'_>, value: &Blob) -> bool
     ensures { result ≡ text_has value.now (title_told asked.now.facts) }
 {
     text_has(value, asked.facts.title_told())
 }
 
-/// Whether the abstract has it.
+/// Returns whether the abstract has the value.
 fn in_abstract(asked: &Asked<'_>, value: &Blob) -> bool
     ensures { result ≡ text_has value.now (abstract_told asked.now.facts) }
 {
     text_has(value, asked.facts.abstract_told())
 }
 
-/// Whether the name of an author has it.
+/// Returns whether the name of an author has the value.
 fn in_author(live: &Live, asked: &Asked<'_>, value: &Blob) -> bool
     ensures { result ≡ name_has value.now (told_at live.now.tables asked.now).page.authors }
 {
@@ -56,7 +60,7 @@ fn in_author(live: &Live, asked: &Asked<'_>, value: &Blob) -> bool
     some_tied_has(live, value, ties)
 }
 
-/// Whether the name of a reviewer has it.
+/// Returns whether the name of a reviewer has the value.
 fn in_reviewer(live: &Live, asked: &Asked<'_>, value: &Blob) -> bool
     ensures { result ≡ reviewer_has value.now (told_at live.now.tables asked.now).page.reviewers }
 {
@@ -64,7 +68,7 @@ fn in_reviewer(live: &Live, asked: &Asked<'_>, value: &Blob) -> bool
     some_seated_has(live, asked.facts.by(), value, seats)
 }
 
-/// Whether a text that is there has the value.
+/// Returns whether a text that is there has the value.
 fn text_has(value: &Blob, text: Option<&Text>) -> bool
     ensures { result ≡ text_has value.now (option_copied text.entry) }
 {
@@ -74,7 +78,7 @@ fn text_has(value: &Blob, text: Option<&Text>) -> bool
     }
 }
 
-/// Whether a name that is there has it.
+/// Returns whether a name that is there has the value.
 fn name_has(value: &Blob, name: &Option<Short>) -> bool
     ensures { result ≡ text_has value.now name.now }
 {
@@ -84,7 +88,7 @@ fn name_has(value: &Blob, name: &Option<Short>) -> bool
     }
 }
 
-/// Whether the name of who is tied so has it. A read by number.
+/// Returns whether the name of the user who is tied so has the value. A read by number.
 fn tied_has(live: &Live, value: &Blob, tie: &Tie<()>) -> bool
     ensures { result ≡ text_has value.now
         (option_map (λ a. a.name) (account_at live.now.tables.accounts tie.now.pair.user)) }
@@ -92,7 +96,7 @@ fn tied_has(live: &Live, value: &Blob, tie: &Tie<()>) -> bool
     name_has(value, &live.name_of(tie.pair.user))
 }
 
-/// Whether one of the names of those who are tied so has it. A read by number for each.
+/// Returns whether one of the names of the users who are tied so has the value. A read by number for each.
 fn some_tied_has(live: &Live, value: &Blob, ties: &[Tie<()>]) -> bool
     ensures { result
         ≡ list_any (λ tie. text_has value.now
@@ -101,21 +105,22 @@ fn some_tied_has(live: &Live, value: &Blob, ties: &[Tie<()>]) -> bool
     ties.iter().any(|tie| tied_has(live, value, tie))
 }
 
-/// Whether the name of who has the seat has it, where it is told. A read by number.
+/// Returns whether the name of the user who has the seat has the value, if it is told. A read by number.
 fn seated_has(live: &Live, by: &Standing, value: &Blob, seat: &Tie<Seat>) -> bool
     ensures { result ≡ text_has value.now (holder_name live.now.tables by.now seat.now) }
 {
     name_has(value, &live.reviewer_name(by, seat))
 }
 
-/// Whether one of the names of those who have these seats has it, where it is told. A read by number for each.
+/// Returns whether one of the names of the users who have these seats has the value, if it is told. A read by number
+/// for each.
 fn some_seated_has(live: &Live, by: &Standing, value: &Blob, seats: &[Tie<Seat>]) -> bool
     ensures { result ≡ list_any (λ seat. text_has value.now (holder_name live.now.tables by.now seat)) seats.now }
 {
     seats.iter().any(|seat| seated_has(live, by, value, seat))
 }
 
-/// Whether the decision is this one, or none was made, as is told.
+/// Returns whether a decision is told, and is this one; none stands for a paper of which nothing was decided.
 fn is_decided(asked: &Asked<'_>, decision: &Option<Decision>) -> bool
     ensures { result ≡ has_decision decision.now (decision_told asked.now.facts) }
 {
@@ -125,7 +130,7 @@ fn is_decided(asked: &Asked<'_>, decision: &Option<Decision>) -> bool
     }
 }
 
-/// Its number in rows, and 0 where none was made.
+/// Returns its number in rows, and 0 if none was made.
 fn number_decided(decision: &Option<Decision>) -> u64
     ensures { result ≡ number_decided decision.now }
 {
@@ -135,7 +140,7 @@ fn number_decided(decision: &Option<Decision>) -> u64
     }
 }
 
-/// Whether the paper stands so.
+/// Returns whether the paper has that status.
 fn stands_so(asked: &Asked<'_>, status: Status) -> bool
     ensures { (t : Tables) → result ≡ stands_so status (told_at t asked.now) }
 {
@@ -146,7 +151,7 @@ fn stands_so(asked: &Asked<'_>, status: Status) -> bool
     }
 }
 
-/// Whether it is told, and is so.
+/// Returns whether it is told, and is so.
 fn is_told(told: Option<bool>, so: bool) -> bool
     ensures { result ≡ option_map_or (λ b. if so then b else not b) told false }
 {
@@ -156,7 +161,7 @@ fn is_told(told: Option<bool>, so: bool) -> bool
     }
 }
 
-/// Whether the paper has that.
+/// Returns whether the paper has that feature.
 fn has_feature(live: &Live, asked: &Asked<'_>, feature: Feature) -> bool
     requires { IsAsked live.now.tables asked.now }
     ensures { result ≡ has_feature feature (told_at live.now.tables asked.now) }
@@ -172,7 +177,7 @@ fn has_feature(live: &Live, asked: &Asked<'_>, feature: Feature) -> bool
     }
 }
 
-/// Whether a decision is told.
+/// Returns whether a decision is told.
 fn tells_decision(asked: &Asked<'_>) -> bool
     ensures { result ≡ option_map_or (λ d. is_some d) (decision_told asked.now.facts) false }
 {

@@ -4,8 +4,8 @@ ghost use Rattle.cr_base.specs.Searching.{begins_alike, contains};
 
 use memchr::memchr2_iter;
 
-/// Whether the text begins with the value. A look at each byte of the value, up to the
-/// first that isn't like the text's.
+/// Returns whether the text begins with the value. A look at each byte of the value, up to the first that isn't like
+/// the text's.
 fn begins_alike(value: &[u8], text: &[u8]) -> bool
     ensures { result ≡ begins_alike value.now text.now }
 {
@@ -20,8 +20,8 @@ fn begins_alike(value: &[u8], text: &[u8]) -> bool
     true
 }
 
-/// Whether the value stands somewhere in the text. Leaps from one byte that is like the value's first to the next,
-/// and looks at more behind each.
+/// Returns whether the value is somewhere in the text. Leaps from one byte that is like the value's first to the next,
+/// and looks at more after each.
 pub(crate) fn contains(value: &[u8], text: &[u8]) -> bool
     ensures { result ≡ contains value.now text.now }
 {
