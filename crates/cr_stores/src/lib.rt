@@ -8,15 +8,15 @@
 
 ghost use Rattle.std.specs.Prelude.{◌≡◌};
 
+mod fault;
 mod notices;
-mod reason;
 
 use cr_files::FileDisks;
 use cr_journal::JournalShelf;
 use cr_ports::{EitherShelf, WatchedShelf, is_journal};
 use cr_sqlite::SqliteShelf;
+pub use fault::Reason;
 pub use notices::StandardError;
-pub use reason::Reason;
 use std::rt::HostRuntime;
 
 /// Journals over files, of which standard error is told.
