@@ -80,9 +80,53 @@ pub fn law_first_told()
 
 /// For each kind of entry, and each part of it that is hidden from some user, two legal histories that differ in that
 /// part. They meet the conditions of `law_hidden_payload` of cr_policy for one user, who sees the same of both, while
-/// another user doesn't. The last two clauses are of `law_removed`: a comment, and the last version of a content,
-/// whose place another takes. docs/CLAIMS.md says of each clause what differs, for whom it looks alike, and for whom
-/// not.
+/// another user doesn't. Timestamps and numbers are tried once for all kinds, and a co-author's entry is its
+/// submitter's. What a new member's role is, and which phase, mode or deadline is set, everyone is shown.
+///
+/// Pairs that differ in a value only: `digests`, `titles`, `abstracts`, `revisions`, `contents`, `bids`, `seats`,
+/// `tags`, `forms`, `forms_to_members`, `to_pc`, `early_to_pc`, `late_forms`, `responses`, `responses_to_accounts`,
+/// `comments`, `decisions`, `bids_from_externals`, `tags_from_externals`.
+///
+/// The others; the last two are of `law_removed`:
+///
+/// - `namers`: Named: which chair names a member. Alike to the member named, not to that chair.
+/// - `dismissers`: Dismissed: which chair dismisses a member. Alike to an account, not to that chair.
+/// - `mode_setters`: ModeSet: which chair sets the mode. Alike to an account, not to that chair.
+/// - `phase_setters`: PhaseSet: which chair opens the bidding. Alike to an author, not to that chair.
+/// - `deadline_setters`: DeadlineSet: which chair sets a deadline. Alike to an author, not to that chair.
+/// - `moments`, `keys`: PhaseSet: when a chair opens it, and by which number. Alike to an author, not to that chair.
+/// - `submitters`: Submitted: who submits, in anonymous mode. Alike to an unconflicted member, not to an unconflicted
+///   chair.
+/// - `coauthors`: Coauthor: who it is, in anonymous mode. Alike to an unconflicted member, not to an unconflicted
+///   chair.
+/// - `revisers`: Revised: which author revises. Alike to an unconflicted member, not to that author.
+/// - `uploaders`: Uploaded: which author uploads. Alike to an unconflicted member, not to that author.
+/// - `withdrawers`: Withdrawn: which author withdraws. Alike to a member, not to that author.
+/// - `declared`: Conflict: which member an author declares. Alike to an unconflicted member, not to an unconflicted
+///   chair.
+/// - `switches`: Conflict: whether a chair turns it off. Alike to an author, not to the member in question.
+/// - `declarers`: Conflict: which author declares it. Alike to the member declared, not to that author.
+/// - `bidders`: Bid: whose. Alike to another member, not to an unconflicted chair.
+/// - `taggers`: Tagged: whose a private tag is. Alike to a chair, not to its owner.
+/// - `assigned`: Assigned: who. Alike to an author, not to the user assigned.
+/// - `assigners`: Assigned: by which chair. Alike to the user assigned, not to that chair.
+/// - `unassigned`: Assigned and Unassigned: who. Alike to an author, not to the user in question.
+/// - `unassigners`: Unassigned: by which chair. Alike to the user unassigned, not to that chair.
+/// - `invited`, `uninvited`: Invited, Uninvited: who. Alike to an unconflicted member, not to the user in question.
+/// - `inviters`, `uninviters`: Invited, Uninvited: by which chair. Alike to the user in question, not to that chair.
+/// - `seats_from_externals`: Assigned: who. Alike to an external, not to the user assigned.
+/// - `comments_from_externals`: Commented: what, and by which member. Alike to an external, not to an unconflicted
+///   member.
+/// - `reviewers`: Assigned and Reviewed: who, in anonymous mode. Alike to an unconflicted member, not to an
+///   unconflicted chair.
+/// - `early_reviewers`: Assigned and Reviewed: who, in the response, in open mode. Alike to an author, not to an
+///   unconflicted chair.
+/// - `responders`: Responded: which author. Alike to an unconflicted member, not to that author.
+/// - `writers`: Commented: who, in anonymous mode. Alike to another member, not to an unconflicted chair.
+/// - `deciders`: Decided: by which chair. Alike to an unconflicted member, not to that chair.
+/// - `removed_comment`: a comment is left out. Alike to an author, not to an unconflicted member.
+/// - `removed_version`: the last version of a content is left out, so that another is the last. Alike to a conflicted
+///   member, not to an unconflicted member.
 pub fn law_hidden_pairs()
     ensures digests { DigestHidden }
     ensures namers { NamerHidden }

@@ -7,9 +7,9 @@
 //! In cr_accounts, cr_papers, cr_conflicts, cr_assign, cr_reviews, cr_talk, cr_tags and cr_decisions:
 //!
 //! - An entry changes the table as defined, without memory once there is room: `apply` (`after`).
-//! - Making room changes nothing else, and fails only if memory runs out: `room` (`ok`, `same`).
-//! - Commands are judged exactly, each by the first broken rule of its list: functions that begin with `judge_`.
-//!   Conflicts and reviewers are judged on the table followed by the earlier entries of the same bulk.
+//! - Making room makes it for the group, and changes nothing else: `room` (`ok`, `same`).
+//! - Commands are judged exactly, each by the first broken rule of its list, conflicts and reviewers after the earlier
+//!   entries of the same bulk: functions that begin with `judge_`.
 //! - What is kept by user agrees with what is kept by paper: the types' invariants.
 //! - Listing or searching a paper's records takes a step for each of their kind; a single record takes at most one,
 //!   and one if it is there: `steps`, `told`.

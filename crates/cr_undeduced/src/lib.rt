@@ -1,5 +1,5 @@
 //! Nothing hidden can be ruled out, by any group; and how somebody came to what they may see. All claims are of legal
-//! histories. [CLAIMS.md](../../../docs/CLAIMS.md#what-cant-be-ruled-out) has their premises.
+//! histories. The comment of each has its premises.
 //!
 //! # Proved
 //!
