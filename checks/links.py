@@ -1,16 +1,16 @@
 #!/usr/bin/env python3
 # SPDX-License-Identifier: Apache-2.0 OR MIT
-"""Tries the pages: README.md and docs/*.md cite nothing that isn't there.
+"""Tries the pages: README.md, docs/*.md and the front of each crate's src/lib.rt cite nothing that isn't there.
 
     python3 checks/links.py
 
 Each link leads to a file and a heading that are there. Each path in backticks is in the repository. Each crate named is
 there, and the table in docs/ARCHITECTURE.md has each of crates.txt. Each name of code in backticks is in a source file;
-in docs/CLAIMS_BY_CRATE.md in one of a crate that its section names. There each clause in parentheses is one of the
+on a crate's page in one of that crate, or of one that the page names. There each clause in parentheses is one of the
 function before it, or in what its contract cites. The table of errors in docs/API.md has exactly the names that
-cr_print prints. Each decision that is cited is there. Prose stays under 100 columns, and under 48,500 words on all
-pages, without what programs print. Needs only Python 3. Prints a line for each thing that isn't so, and last `N cited,
-M wrong`; ends with status 0 if none is wrong. Takes some ten seconds.
+cr_print prints. Each decision that is cited is there. Prose stays under 100 columns, in a source under 120, and all
+pages together under so many words (`WORDS`), without what programs print. Needs only Python 3. Prints a line for each
+thing that isn't so, and last `N cited, M wrong`; ends with status 0 if none is wrong. Takes some ten seconds.
 """
 
 import fnmatch
@@ -19,13 +19,13 @@ import re
 import sys
 
 from lib.contracts import is_clause
-from lib.pages import PAGES, prose
+from lib.pages import CRATE_PAGES, PAGES, prose, read, words
 from lib.places import TOP
 
 KINDS = (".rt", ".antt", ".py", ".sh", ".md", ".case", ".edit", ".txt", ".http", ".conf", ".service")
 # Pages on which every name in backticks is one of code; on the others those with `_` or `::` are.
-CLAIMS = ("CLAIMS.md", "CLAIMS_BY_CRATE.md")
-COLUMNS, WORDS = 100, 48_500
+CLAIMS = ("CLAIMS.md", "lib.rt")
+COLUMNS, WORDS = {".md": 100, ".rt": 120}, 48_500
 # What stands for a name of the reader's own, or is made when something runs.
 MADE = re.compile(r"FILE|NAME|PATH|BACKUP|COPY|/var/|/etc/|\bout/|assignments\.csv|[<>$]|^NO")
 # Names in backticks that no source has: an edit that can't be written, and a part of a goal's name.
@@ -45,10 +45,10 @@ CRATES = {p.name for p in (TOP / "crates").iterdir() if p.is_dir()}
 
 @functools.cache
 def words_in(path):
-    """Each word of a source, names with a dash whole and in parts; none of what is no source."""
+    """Each word of a source without its page, names with a dash whole and in parts; none of what is no source."""
     if path.suffix not in (".rt", ".antt", ".py", ".sh", ".edit"):
         return frozenset()
-    text = (TOP / path).read_text()
+    text = re.sub(r"^//!.*", "", (TOP / path).read_text(), flags=re.M)
     return frozenset(re.findall(r"[\w-]+", text)) | frozenset(re.findall(r"\w+", text))
 
 
@@ -65,7 +65,7 @@ def slug(heading):
 
 
 def anchors(page):
-    return {slug(line.lstrip("#")) for _, line in prose(page.read_text()) if line.startswith("#")}
+    return {slug(line.lstrip("#")) for _, line in prose(read(page)) if line.startswith("#")}
 
 
 def is_there(path):
@@ -101,28 +101,33 @@ def begins_names(name, code):
     return name.endswith("_") and any(word.startswith(name) for word in code)
 
 
-def names_elsewhere():
-    """Names on the page by crate that stand in no crate which their section names, each with the heading."""
-    checks = frozenset().union(*(words_in(p) for p in FILES if p.parts[0] == "checks"))
-    sections = re.split(r"^## ", (TOP / "docs/CLAIMS_BY_CRATE.md").read_text(), flags=re.M)[1:]
-    for section in sections:
-        heading = section.split("\n")[0]
-        code = words_of_code({c for c in CRATES if re.search(rf"\b{c}\b", section)}) | checks
-        for span in re.findall(r"`([^`\n]+)`", section):
-            for name in names_in(span, True):
-                if name not in code and name not in words_of_libraries() and not is_there(span):
-                    yield heading, name
+def told_crates(page):
+    """The crate of a page, and those that the page names."""
+    return {page.parts[-3], *(c for c in CRATES if re.search(rf"\b{c}\b", read(page)))}
 
 
-def clauses_elsewhere():
-    """On the page by crate, clauses that follow a function in parentheses and are none of it, each with the heading."""
-    sections = re.split(r"^## ", (TOP / "docs/CLAIMS_BY_CRATE.md").read_text(), flags=re.M)[1:]
-    for section in sections:
-        crates = {c for c in CRATES if re.search(rf"\b{c}\b", section)}
-        for function, clauses in re.findall(r"`(?:\w+::)?(\w+)` \(((?:`\w+`(?:, )?)+)\)", section):
-            for clause in re.findall(r"`(\w+)`", clauses):
-                if not is_clause(crates, function, clause):
-                    yield section.split("\n")[0], f"{function} has no clause {clause}"
+@functools.cache
+def words_of_checks():
+    """The words of the scripts of checks/."""
+    return frozenset().union(*(words_in(p) for p in FILES if p.parts[0] == "checks"))
+
+
+def names_elsewhere(page):
+    """Names on a crate's page that are in no crate which it names, nor in its own."""
+    code = words_of_code(told_crates(page)) | words_of_checks()
+    for span in re.findall(r"`([^`\n]+)`", read(page)):
+        for name in names_in(span, True):
+            if name not in code and name not in words_of_libraries() and not is_there(span):
+                yield name
+
+
+def clauses_elsewhere(page):
+    """On a crate's page, clauses that follow a function in parentheses and are none of it."""
+    text, crates = " ".join(read(page).split()), told_crates(page)
+    for function, clauses in re.findall(r"`(?:\w+::)?(\w+)` \(((?:`\w+`(?:, )?)+)\)", text):
+        for clause in re.findall(r"`(\w+)`", clauses):
+            if not is_clause(crates, function, clause):
+                yield f"{function} has no clause {clause}"
 
 
 @functools.cache
@@ -142,17 +147,16 @@ def main():
     code = words_of_code()
     decisions = set(re.findall(r"^(?:- \*\*|\| ?)D(\d+)\b", (TOP / "docs/DECISIONS.md").read_text(), re.M))
     total = 0
-    for page in PAGES:
-        text = page.read_text()
-        for number, line in prose(text):
-            total += len(line.split())
+    for page in PAGES + CRATE_PAGES:
+        for number, line in prose(read(page)):
+            total += len(words(line))
             where = f"{page.relative_to(TOP)}:{number}"
-            if len(line) >= COLUMNS and not line.startswith(("|", "#")):
+            if len(line) >= COLUMNS[page.suffix] and not line.startswith(("|", "#")):
                 wrong.append(f"{where}: {len(line)} columns")
             for target in re.findall(r"\]\(([^)]+)\)", line):
                 cited += 1
                 name, _, anchor = target.partition("#")
-                if name.startswith("http"):
+                if name.startswith("http") or re.fullmatch(r"\w+::\w+", name):
                     continue
                 to = (page.parent / name).resolve() if name else page
                 if not to.exists():
@@ -177,15 +181,14 @@ def main():
             for crate in re.findall(r"\bcr_[a-z_]+\b", line):
                 if crate.rstrip("_") not in CRATES and crate not in code:
                     wrong.append(f"{where}: no crate {crate}")
-    for heading, name in names_elsewhere():
-        wrong.append(f"docs/CLAIMS_BY_CRATE.md: no name {name} in the crates of {heading}")
+    for page in CRATE_PAGES:
+        wrong += [f"{page.relative_to(TOP)}: no name {name} in its crates" for name in names_elsewhere(page)]
+        wrong += [f"{page.relative_to(TOP)}: {why}" for why in clauses_elsewhere(page)]
     listed = [name for row in re.findall(r"^\|((?:cr|tests_of)_[\w, ]+|confd|conformance)\|",
                                          (TOP / "docs/ARCHITECTURE.md").read_text(), re.M) for name in row.split(", ")]
     due = re.findall(r"^(\w+):", (TOP / "crates.txt").read_text(), re.M)
     for name in sorted(set(due) ^ set(listed)):
         wrong.append(f"docs/ARCHITECTURE.md: its table or crates.txt has {name}, and not the other")
-    for heading, why in clauses_elsewhere():
-        wrong.append(f"docs/CLAIMS_BY_CRATE.md: {heading}: {why}")
     table = set(re.findall(r"^\| ?`([a-z_]+)` ?\| ?\d{3} ?\|", (TOP / "docs/API.md").read_text(), re.M))
     for name in sorted(error_names() ^ table):
         wrong.append(f"docs/API.md: the error {name} is printed and not in the table, or the other way round")

@@ -6,11 +6,12 @@
     python3 checks/prose.py --numbers [COMMIT]    the words of each page, and the average length of a sentence; of the
                                                   pages of a commit, where one is named
 
-A sentence has at most 30 words. What is in code, in headings and in tables' heads isn't counted, and a cell of a table
-is a text of its own. The words of BANNED have a plainer one, which is printed. A block or a row that cites a theorem
-(`law_..`) as a claim says that it is Proved, Tested or Assumed. The descriptions of docs/openapi.json and the heads of
-scripts are tried too. Prints a line for each thing that isn't so, and last how many sentences were read; ends with
-status 0 if none is wrong. Needs only Python 3.
+The page of a crate is the front of its src/lib.rt. A sentence has at most 30 words. What is in code, in headings and in
+tables' heads isn't counted, and a cell of a table is a text of its own. The words of BANNED have a plainer one, which
+is printed. A block or a row that cites a theorem (`law_..`) as a claim says that it is Proved, Tested or Assumed; on a
+crate's page the heading above it does. The descriptions of docs/openapi.json and the heads of scripts are tried too.
+Prints a line for each thing that isn't so, and last how many sentences were read; ends with status 0 if none is wrong.
+Needs only Python 3.
 """
 
 import ast
@@ -19,13 +20,13 @@ import re
 import subprocess
 import sys
 
-from lib.pages import PAGES, blocks, plain, sentences, words
+from lib.pages import CRATE_PAGES, PAGES, blocks, crate_page, plain, read, sentences, words
 from lib.places import TOP
 
 SCRIPTS = ("bench/*.py", "checks/*.py", "checks/lib/*.py", "checks/planted/*.py", "deploy/*.py")
 MOST_WORDS = 30
 # Pages on which citing a theorem is claiming it.
-CLAIMING = ("README.md", "docs/TRUST.md", "docs/CLAIMS.md", "docs/CLAIMS_BY_CRATE.md")
+CLAIMING = ("README.md", "docs/TRUST.md", "docs/CLAIMS.md")
 STATUS = re.compile(r"\b(Proved|Tested|Assumed)\b")
 # What isn't written, as an expression over a plain text, and what is.
 BANNED = (
@@ -49,7 +50,9 @@ BANNED = (
 def wrong_in(name, text):
     """The sentences of a page, those of its tables apart, counted by their words, and what is wrong with it."""
     counts, in_tables, wrong = [], [], []
+    heading = ""
     for block in blocks(text):
+        heading = block.text if block.kind == "heading" else heading
         where = f"{name}:{block.line}"
         if block.torn:
             wrong.append(f"{where}: a list begins in a paragraph's next line: was it a number that a line began with?")
@@ -63,8 +66,8 @@ def wrong_in(name, text):
                 found = re.search(expression, text)
                 if found:
                     wrong.append(f"{where}: \"{found.group().strip('.;:!? ')}\": write: {better}")
-        is_claim = name in CLAIMING and block.kind != "heading" and "`law_" in block.text
-        if is_claim and not STATUS.search(block.text):
+        is_claim = (name in CLAIMING or name.endswith(".rt")) and block.kind != "heading" and "`law_" in block.text
+        if is_claim and not STATUS.search(heading if name.endswith(".rt") else block.text):
             wrong.append(f"{where}: a claim without a status (Proved, Tested or Assumed)")
     return counts, in_tables, wrong
 
@@ -87,7 +90,10 @@ def pages_of(commit):
     git = lambda *words: subprocess.run(["git", *words], cwd=TOP, capture_output=True, check=True).stdout.decode()
     names = git("ls-tree", "-r", "--name-only", commit).split("\n")
     pages = [name for name in names if re.fullmatch(r"[A-Z]+\.md|docs/\w+\.md|checks/planted/README\.md", name)]
-    return {name: git("show", f"{commit}:{name}") for name in pages}
+    crates = [name for name in names if re.fullmatch(r"crates/\w+/src/lib\.rt", name)]
+    return {name: git("show", f"{commit}:{name}") for name in pages} | {
+        name: crate_page(git("show", f"{commit}:{name}")) for name in crates
+    }
 
 
 def numbers(pages):
@@ -102,22 +108,23 @@ def numbers(pages):
 
 
 def main():
-    named, here = sys.argv[1:], {page.relative_to(TOP).as_posix(): page.read_text() for page in PAGES}
+    named = sys.argv[1:]
+    here = {page.relative_to(TOP).as_posix(): read(page) for page in PAGES + CRATE_PAGES}
     if named[:1] == ["--numbers"]:
         numbers(pages_of(named[1]) if named[1:] else here)
         return 0
     if not set(named) <= set(here):
         sys.exit(f"no page of these names: {' '.join(sorted(set(named) - set(here)))}")
-    read, wrong = 0, []
+    seen, wrong = 0, []
     for name in named or here:
         counts, in_tables, more = wrong_in(name, here[name])
-        read += len(counts) + len(in_tables)
+        seen += len(counts) + len(in_tables)
         wrong += more
     if not named:
         wrong += wrong_in("docs/openapi.json", described((TOP / "docs/openapi.json").read_text()))[2]
         for script in sorted(path for place in SCRIPTS for path in TOP.glob(place)):
             wrong += wrong_in(script.relative_to(TOP).as_posix(), head(script))[2]
-    print("\n".join([*wrong, f"{len(named or here)} pages, {read} sentences, {len(wrong)} wrong"]))
+    print("\n".join([*wrong, f"{len(named or here)} pages, {seen} sentences, {len(wrong)} wrong"]))
     return 1 if wrong else 0
 
 

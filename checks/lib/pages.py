@@ -1,6 +1,6 @@
 # SPDX-License-Identifier: Apache-2.0 OR MIT
-"""README.md, the pages of docs/ and that of checks/planted, as checks read them: their lines outside code, and their
-blocks."""
+"""README.md, the pages of docs/ and that of checks/planted, and what src/lib.rt of each crate says of the crate, as
+checks read them: their lines outside code, and their blocks."""
 
 import re
 from dataclasses import dataclass
@@ -12,7 +12,24 @@ PAGES = [
     *sorted((TOP / "docs").glob("*.md")),
     TOP / "checks/planted/README.md",
 ]
+CRATE_PAGES = sorted((TOP / "crates").glob("*/src/lib.rt"))
 ITEM = re.compile(r"\s*(?:[-*+]|\d+\.)\s+")
+
+
+def crate_page(source):
+    """What the lines `//!` at the front of a source say, each in its line."""
+    lines = []
+    for line in source.split("\n"):
+        if not line.startswith("//!"):
+            break
+        lines.append(line.removeprefix("//!").removeprefix(" "))
+    return "\n".join(lines)
+
+
+def read(page):
+    """The text of a page; of a crate's source what it says of the crate."""
+    text = page.read_text()
+    return crate_page(text) if page.suffix == ".rt" else text
 
 
 def prose(text):
