@@ -26,13 +26,19 @@ pub(crate) enum ReadError {
     OutOfMemory,
 }
 
-/// The history of the whole groups read so far with its tables, and the rows of a group of which more
-/// are to come; if they are a bulk's, their entries as well.
+/// The history of the whole groups read so far, with its tables.
 #[derive(Drop)]
-pub(crate) struct Reading {
+struct WholeGroups {
     alloc: Global,
     log: Log,
     live: Live,
+}
+
+/// The whole groups read so far, and the rows of a group of which more are to come; if they are a bulk's, their
+/// entries as well.
+#[derive(Drop)]
+pub(crate) struct Reading {
+    whole: WholeGroups,
     pending: Vec<Row>,
     begun: Vec<Stamped>,
 }
@@ -42,11 +48,11 @@ impl Model for Reading {
 
     ghost Value = { SeenReading };
 
-    ghost view = { λ r. record { log = r.log.entries; pending = r.pending.items } };
+    ghost view = { λ r. record { log = r.whole.log.entries; pending = r.pending.items } };
 
     ghost use Rattle.cr_book.specs.Reading.{IsReading};
 
-    ghost invariant = { λ r. IsReading r.log.entries r.live.tables r.pending.items r.begun.items };
+    ghost invariant = { λ r. IsReading r.whole.log.entries r.whole.live.tables r.pending.items r.begun.items };
 }
 
 impl Reading {
@@ -56,9 +62,11 @@ impl Reading {
         ensures pending { result.pending ≡ [] }
     {
         Reading {
-            alloc,
-            log: Log::new(alloc),
-            live: Live::new(alloc),
+            whole: WholeGroups {
+                alloc,
+                log: Log::new(alloc),
+                live: Live::new(alloc),
+            },
             pending: Vec::new(alloc),
             begun: Vec::new(alloc),
         }
@@ -74,9 +82,7 @@ impl Reading {
         ensures refused { IfErr result (λ e. IsRowRefused (rows_of self.log ++ self.pending) row e) }
     {
         let Reading {
-            alloc,
-            log,
-            live,
+            whole,
             pending,
             begun,
         } = self;
@@ -86,14 +92,14 @@ impl Reading {
         let Some(next) = found else {
             return Err(ReadError::Bad(row));
         };
-        if !may_begin(&log, &pending, &next.stamp) {
+        if !may_begin(&whole.log, &pending, &next.stamp) {
             drop(next);
             return Err(ReadError::Bad(row));
         }
         if is_of_bulk(&pending, &begun, &next) {
-            return read_of_bulk(alloc, log, live, pending, begun, row, next);
+            return read_of_bulk(whole, pending, begun, row, next);
         }
-        read_of_command(alloc, log, live, pending, row)
+        read_of_command(whole, pending, row)
     }
 
     /// The history read, with its tables; or the last row, where more of its group should come.
@@ -102,15 +108,13 @@ impl Reading {
         ensures cut { IfErr result (λ last. IsCutStore self.log self.pending last) }
     {
         let Reading {
-            alloc: _,
-            log,
-            live,
+            whole,
             mut pending,
             begun: _,
         } = self;
         match pending.pop() {
             Some(row) => Err(row),
-            None => Ok((log, live)),
+            None => Ok((whole.log, whole.live)),
         }
     }
 }
@@ -141,25 +145,23 @@ fn may_begin(log: &Log, pending: &[Row], stamp: &Stamp) -> bool
 
 /// The reading with a row more of a command's group.
 fn read_of_command(
-    alloc: Global,
-    log: Log,
-    live: Live,
+    whole: WholeGroups,
     mut pending: Vec<Row>,
     row: Row,
 ) -> Result<Reading, ReadError>
-    requires reading { IsReading log.entries live.tables pending.items [] }
-    requires new { BeginNew log.entries (pending.items ++ row ∷ []) }
+    requires reading { IsReading whole.log.entries whole.live.tables pending.items [] }
+    requires new { BeginNew whole.log.entries (pending.items ++ row ∷ []) }
     requires no_bulk { NoBulk (pending.items ++ row ∷ []) }
     ensures ok { IfOk result (λ after. rows_of after.log ++ after.pending
-        ≡ (rows_of log.entries ++ pending.items) ++ row ∷ []) }
-    ensures refused { IfErr result (λ e. IsRowRefused (rows_of log.entries ++ pending.items) row e) }
+        ≡ (rows_of whole.log.entries ++ pending.items) ++ row ∷ []) }
+    ensures refused { IfErr result (λ e. IsRowRefused (rows_of whole.log.entries ++ pending.items) row e) }
 {
     if pending.reserve(1).is_err() {
         return Err(ReadError::OutOfMemory);
     }
     pending.push_reserved(row);
-    match begun(alloc, &live, &pending) {
-        Ok(Some(group)) => with_begun(alloc, log, live, pending, group),
+    match begun(whole.alloc, &whole.live, &pending) {
+        Ok(Some(group)) => with_begun(whole, pending, group),
         Ok(None) => Err(last_of(pending)),
         Err(_) => Err(ReadError::OutOfMemory),
     }
@@ -167,25 +169,23 @@ fn read_of_command(
 
 /// The reading with a row more of a bulk's group, whose entry this is.
 fn read_of_bulk(
-    alloc: Global,
-    log: Log,
-    live: Live,
+    whole: WholeGroups,
     pending: Vec<Row>,
     begun: Vec<Stamped>,
     row: Row,
     next: Stamped,
 ) -> Result<Reading, ReadError>
-    requires reading { IsReading log.entries live.tables pending.items begun.items }
-    requires new { BeginNew log.entries (pending.items ++ row ∷ []) }
+    requires reading { IsReading whole.log.entries whole.live.tables pending.items begun.items }
+    requires new { BeginNew whole.log.entries (pending.items ++ row ∷ []) }
     requires bulk { is_of_bulk pending.items begun.items next ≡ true }
     requires bounded { IsBoundedEntry next }
     requires row { row_of next ≡ row }
     ensures ok { IfOk result (λ after. rows_of after.log ++ after.pending
-        ≡ (rows_of log.entries ++ pending.items) ++ row ∷ []) }
-    ensures refused { IfErr result (λ e. IsRowRefused (rows_of log.entries ++ pending.items) row e) }
+        ≡ (rows_of whole.log.entries ++ pending.items) ++ row ∷ []) }
+    ensures refused { IfErr result (λ e. IsRowRefused (rows_of whole.log.entries ++ pending.items) row e) }
 {
-    match goes_on(alloc, &live, &begun, &next, &row) {
-        Ok(true) => with_next(alloc, log, live, pending, begun, row, next),
+    match goes_on(whole.alloc, &whole.live, &begun, &next, &row) {
+        Ok(true) => with_next(whole, pending, begun, row, next),
         Ok(false) => {
             drop(next);
             Err(ReadError::Bad(row))
@@ -199,22 +199,20 @@ fn read_of_bulk(
 
 /// The reading with a row more of a bulk, whose entry this is; the group is added once it is the last.
 fn with_next(
-    alloc: Global,
-    log: Log,
-    live: Live,
+    whole: WholeGroups,
     mut pending: Vec<Row>,
     mut begun: Vec<Stamped>,
     row: Row,
     next: Stamped,
 ) -> Result<Reading, ReadError>
     requires last { next.more ≡ false
-        → IsGoing log.entries live.tables (pending.items ++ row ∷ []) (begun.items ++ next ∷ []) }
+        → IsGoing whole.log.entries whole.live.tables (pending.items ++ row ∷ []) (begun.items ++ next ∷ []) }
     requires more { next.more ≡ true
-        → IsReading log.entries live.tables (pending.items ++ row ∷ []) (begun.items ++ next ∷ []) }
-    requires fits { FitInTurn live.tables (begun.items ++ next ∷ []) }
+        → IsReading whole.log.entries whole.live.tables (pending.items ++ row ∷ []) (begun.items ++ next ∷ []) }
+    requires fits { FitInTurn whole.live.tables (begun.items ++ next ∷ []) }
     requires same { length pending.items ≡ length begun.items }
     ensures ok { IfOk result (λ after. rows_of after.log ++ after.pending
-        ≡ (rows_of log.entries ++ pending.items) ++ row ∷ []) }
+        ≡ (rows_of whole.log.entries ++ pending.items) ++ row ∷ []) }
     ensures memory { IfErr result (λ e. e ≡ ReadError.OutOfMemory) }
 {
     let more = next.more;
@@ -223,14 +221,12 @@ fn with_next(
     };
     if more {
         return Ok(Reading {
-            alloc,
-            log,
-            live,
+            whole,
             pending,
             begun,
         });
     }
-    with_group(alloc, log, live, pending, begun)
+    with_group(whole, pending, begun)
 }
 
 /// Adds a value to each, behind those that are there. It is for any types, so that no check spells out how they go.
@@ -252,63 +248,57 @@ fn add_both<A: Drop, B: Drop>(
 
 /// The reading where these rows begin the group of a command: it is added once all its rows are there.
 fn with_begun(
-    alloc: Global,
-    log: Log,
-    live: Live,
+    whole: WholeGroups,
     pending: Vec<Row>,
     group: Vec<Stamped>,
 ) -> Result<Reading, ReadError>
-    requires going { IsGoing log.entries live.tables pending.items group.items }
-    requires fits { FitInTurn live.tables group.items }
-    requires new { BeginNew log.entries pending.items }
+    requires going { IsGoing whole.log.entries whole.live.tables pending.items group.items }
+    requires fits { FitInTurn whole.live.tables group.items }
+    requires new { BeginNew whole.log.entries pending.items }
     requires no_bulk { NoBulk pending.items }
-    ensures ok { IfOk result (λ after. rows_of after.log ++ after.pending ≡ rows_of log.entries ++ pending.items) }
+    ensures ok { IfOk result (λ after. rows_of after.log ++ after.pending
+        ≡ rows_of whole.log.entries ++ pending.items) }
     ensures memory { IfErr result (λ e. e ≡ ReadError.OutOfMemory) }
 {
     if pending.len() < group.len() {
         return Ok(Reading {
-            alloc,
-            log,
-            live,
+            begun: Vec::new(whole.alloc),
+            whole,
             pending,
-            begun: Vec::new(alloc),
         });
     }
-    with_group(alloc, log, live, pending, group)
+    with_group(whole, pending, group)
 }
 
 /// The reading where these rows are all of the group, which is added.
 fn with_group(
-    alloc: Global,
-    mut log: Log,
-    mut live: Live,
+    mut whole: WholeGroups,
     mut pending: Vec<Row>,
     group: Vec<Stamped>,
 ) -> Result<Reading, ReadError>
-    requires going { IsGoing log.entries live.tables pending.items group.items }
-    requires fits { FitInTurn live.tables group.items }
+    requires going { IsGoing whole.log.entries whole.live.tables pending.items group.items }
+    requires fits { FitInTurn whole.live.tables group.items }
     requires all { length group.items ≤ length pending.items }
-    ensures ok { IfOk result (λ after. rows_of after.log ++ after.pending ≡ rows_of log.entries ++ pending.items) }
+    ensures ok { IfOk result (λ after. rows_of after.log ++ after.pending
+        ≡ rows_of whole.log.entries ++ pending.items) }
     ensures memory { IfErr result (λ e. e ≡ ReadError.OutOfMemory) }
 {
-    let Ok(entries) = copies_of(alloc, &group) else {
+    let Ok(entries) = copies_of(whole.alloc, &group) else {
         return Err(ReadError::OutOfMemory);
     };
-    let Ok(()) = live.room(&group) else {
+    let Ok(()) = whole.live.room(&group) else {
         return Err(ReadError::OutOfMemory);
     };
-    let Ok(()) = log.room(&group) else {
+    let Ok(()) = whole.log.room(&group) else {
         return Err(ReadError::OutOfMemory);
     };
-    log.append(entries);
-    live.apply_all(group);
+    whole.log.append(entries);
+    whole.live.apply_all(group);
     pending.clear();
     Ok(Reading {
-        alloc,
-        log,
-        live,
+        begun: Vec::new(whole.alloc),
+        whole,
         pending,
-        begun: Vec::new(alloc),
     })
 }
 

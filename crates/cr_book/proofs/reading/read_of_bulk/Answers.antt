@@ -7,7 +7,7 @@ use Rattle.cr_book.proofs.reading.read_of_bulk.Goals as goal
 
 pub goes_on-requires : goal.goes_on-requires
 goes_on-requires c = record {
-  earlier = subst (λ (h : History). AreEarlier c.args.live.tables h) (sym c.deref.ensures.value)
+  earlier = subst (λ (h : History). AreEarlier c.args.whole.live.tables h) (sym c.deref.ensures.value)
       (earlier-of _ _ _ c.requires.reading.bulk);
   bounded = c.requires.bounded;
   spells = c.requires.row;

@@ -15,7 +15,7 @@ append-requires-clause-room c =
 pub append-requires-clause-follows : goal.append-requires-clause-follows
 append-requires-clause-follows c =
     subst (λ (log : History). MayFollow log c.in-Ok.entries.items) (sym c.room-2.ensures.same)
-    (subst (λ (group : History). MayFollow c.args.log.entries group) (sym (c.in-Ok.ensures ∙ c.deref.ensures.value))
+    (subst (λ (group : History). MayFollow c.args.whole.log.entries group) (sym (c.in-Ok.ensures ∙ c.deref.ensures.value))
     c.requires.going.follows)
 
 pub apply_all-requires-clause-room : goal.apply_all-requires-clause-room
@@ -24,8 +24,8 @@ apply_all-requires-clause-room c =
 
 pub invariant_of-result : goal.invariant_of-result
 invariant_of-result c =
-    going-whole c.args.log.entries _ c.args.live.tables _ c.args.pending.items _ c.args.group.items _ c.requires.going
+    going-whole c.args.whole.log.entries _ c.args.whole.live.tables _ c.args.pending.items _ c.args.group.items _ c.requires.going
     (c.append.ensures ∙ ap (λ (h : History). h ++ c.in-Ok.entries.items) c.room-2.ensures.same
-    ∙ ap (λ (h : History). c.args.log.entries ++ h) (c.in-Ok.ensures ∙ c.deref.ensures.value))
+    ∙ ap (λ (h : History). c.args.whole.log.entries ++ h) (c.in-Ok.ensures ∙ c.deref.ensures.value))
     (c.apply_all.ensures.after ∙ ap (λ (t : Tables). tables_from t c.args.group.items) c.room.ensures.same)
     c.clear.ensures.items c.new.ensures.items

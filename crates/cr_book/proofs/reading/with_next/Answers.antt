@@ -8,18 +8,18 @@ use Rattle.cr_book.proofs.reading.with_next.Goals as goal
 
 pub invariant_of-result : goal.invariant_of-result
 invariant_of-result c =
-    subst (λ (rows : List Row). IsReading c.args.log.entries c.args.live.tables rows c.add_both.new.entries.items)
+    subst (λ (rows : List Row). IsReading c.args.whole.log.entries c.args.whole.live.tables rows c.add_both.new.entries.items)
     (sym c.in-Ok.ensures.rows)
-    (subst (λ (begun : History). IsReading c.args.log.entries c.args.live.tables
+    (subst (λ (begun : History). IsReading c.args.whole.log.entries c.args.whole.live.tables
     (c.args.pending.items ++ c.args.row ∷ []) begun)
     (sym c.in-Ok.ensures.entries)
     (c.requires.more c.if-more.true))
 
 pub with_group-requires-clause-going : goal.with_group-requires-clause-going
 with_group-requires-clause-going c =
-    subst (λ (rows : List Row). IsGoing c.args.log.entries c.args.live.tables rows c.add_both.new.entries.items)
+    subst (λ (rows : List Row). IsGoing c.args.whole.log.entries c.args.whole.live.tables rows c.add_both.new.entries.items)
     (sym c.in-Ok.ensures.rows)
-    (subst (λ (begun : History). IsGoing c.args.log.entries c.args.live.tables (c.args.pending.items ++ c.args.row ∷ [])
+    (subst (λ (begun : History). IsGoing c.args.whole.log.entries c.args.whole.live.tables (c.args.pending.items ++ c.args.row ∷ [])
     begun)
     (sym c.in-Ok.ensures.entries)
     (c.requires.last c.if-more.false))
@@ -29,7 +29,7 @@ returns-clause-ok c =
     IfOk-weaker c.with_group.result _ _
     (λ after is.
     is
-    ∙ ap (λ (rows : List Row). rows_of c.args.log.entries ++ rows)
+    ∙ ap (λ (rows : List Row). rows_of c.args.whole.log.entries ++ rows)
     c.in-Ok.ensures.rows
-    ∙ sym (append_assoc (rows_of c.args.log.entries) c.args.pending.items (c.args.row ∷ [])))
+    ∙ sym (append_assoc (rows_of c.args.whole.log.entries) c.args.pending.items (c.args.row ∷ [])))
     c.with_group.ensures.ok

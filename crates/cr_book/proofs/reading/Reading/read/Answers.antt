@@ -21,7 +21,7 @@ pub returns-in_default-found-clause-refused : goal.returns-in_default-found-clau
 returns-in_default-found-clause-refused c =
     subst (λ (rows : List Row). IsRowRefused rows c.args.row (errors.Bad c.args.row))
     (before _ c.args.self c.self.view_is)
-    (refused-none c.self.inside.log.entries c.self.inside.live.tables c.self.inside.pending.items
+    (refused-none c.self.inside.whole.log.entries c.self.inside.whole.live.tables c.self.inside.pending.items
     c.self.inside.begun.items c.args.row c.self.invariant
     (λ s bounded is. c.in_default-found.not-Some s (c.in-Ok.ensures.every s bounded is)))
 
@@ -38,21 +38,21 @@ returns-then-not-may_begin-clause-refused c =
     let used = c.may_begin.ensures.used c.if-not-may_begin.true in
     subst (λ (rows : List Row). IsRowRefused rows c.args.row (errors.Bad c.args.row))
     (before _ c.args.self c.self.view_is)
-    (refused-first c.self.inside.log.entries c.self.inside.live.tables c.self.inside.pending.items
+    (refused-first c.self.inside.whole.log.entries c.self.inside.whole.live.tables c.self.inside.pending.items
     c.self.inside.begun.items c.args.row c.in-Some.next c.self.invariant
     entry.0 entry.1 (sym c.deref.ensures.value ∙ used.0) used.1)
 
 pub read_of_bulk-requires-clause-new : goal.read_of_bulk-requires-clause-new
 read_of_bulk-requires-clause-new c =
     let entry = spelled _ c.in-Some.next c.args.row c.in-Some.is c.in-Ok.ensures.spells in
-    begins-new c.self.inside.log.entries c.self.inside.pending.items c.args.row c.in-Some.next c.self.invariant.new
+    begins-new c.self.inside.whole.log.entries c.self.inside.pending.items c.args.row c.in-Some.next c.self.invariant.new
     entry.0 entry.1
     (λ none. c.may_begin.ensures.new c.if-not-may_begin.false (c.deref.ensures.value ∙ none))
 
 pub read_of_command-requires-clause-no_bulk : goal.read_of_command-requires-clause-no_bulk
 read_of_command-requires-clause-no_bulk c =
     let entry = spelled _ c.in-Some.next c.args.row c.in-Some.is c.in-Ok.ensures.spells in
-    (no-bulk c.self.inside.live.tables c.self.inside.pending.items c.self.inside.begun.items c.args.row c.in-Some.next
+    (no-bulk c.self.inside.whole.live.tables c.self.inside.pending.items c.self.inside.begun.items c.args.row c.in-Some.next
     c.self.invariant.bulk
     (ap (λ (p : List Row). is_of_bulk p c.self.inside.begun.items c.in-Some.next) (sym c.deref-2.ensures.value)
     ∙ ap (λ (b : History). is_of_bulk c.deref-2.result.now b c.in-Some.next) (sym c.deref-3.ensures.value)
