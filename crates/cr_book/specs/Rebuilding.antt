@@ -92,18 +92,22 @@ target_command_told t (Unassigned paper user ordinal) =
     option_map (λ name. commands.Unassign (Some paper) (Some name)) (name_told t user)
 target_command_told t e = external_command_told t e
 
+-- what a user's command was that keeps a form, a comment or a response, or that names a user who is there
+abbrev pub written_command_told : Tables → Entry → Option Command
+written_command_told t (Reviewed paper ordinal version form) = Some (commands.Review (Some paper) form)
+written_command_told t (Commented paper n ordinal text) = Some (commands.Comment (Some paper) text)
+written_command_told t (Responded paper text) = Some (commands.Respond (Some paper) text)
+written_command_told t e = target_command_told t e
+
 -- what a user's command was that is on a paper and names no user, or that names one who is there
 abbrev pub paper_command_told : Tables → Entry → Option Command
 paper_command_told t (Revised paper title abstract) = Some (commands.Revise (Some paper) title abstract)
 paper_command_told t (Uploaded paper version content) = Some (commands.Upload (Some paper) content)
 paper_command_told t (Withdrawn paper) = Some (commands.Withdraw (Some paper))
 paper_command_told t (Bid paper value) = Some (commands.Bid (Some paper) value)
-paper_command_told t (Reviewed paper ordinal version form) = Some (commands.Review (Some paper) form)
-paper_command_told t (Commented paper n ordinal text) = Some (commands.Comment (Some paper) text)
-paper_command_told t (Responded paper text) = Some (commands.Respond (Some paper) text)
 paper_command_told t (Tagged paper tag on) = Some (commands.Tag (Some paper) tag on)
 paper_command_told t (Decided paper decision) = Some (commands.Decide (Some paper) decision)
-paper_command_told t e = target_command_told t e
+paper_command_told t e = written_command_told t e
 
 -- what a user's command was, where the users that it names are there, and co-authors, if it tells them, no more than
 -- 19; an entry that begins no such command's has none

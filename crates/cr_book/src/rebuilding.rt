@@ -6,7 +6,7 @@ ghost use Rattle.cr_base.specs.Tables.{FitInTurn};
 ghost use Rattle.cr_base.specs.declared.command.Command.TheVariants as commands;
 ghost use Rattle.cr_judge.specs.Effects.{drawn_by, group_of};
 ghost use Rattle.cr_book.specs.Rebuilding.{giver_told, call_told, command_told, target_command_told};
-ghost use Rattle.cr_book.specs.Rebuilding.{external_command_told};
+ghost use Rattle.cr_book.specs.Rebuilding.{external_command_told, written_command_told};
 ghost use Rattle.cr_book.specs.Rebuilding.{paper_command_told, user_command_told};
 ghost use Rattle.cr_book.specs.Rebuilding.{drawn_told, is_givers, is_known, may_have_key, IsBegun, NoneBegun};
 ghost use Rattle.cr_base.specs.declared.row.Row.{Row};
@@ -113,6 +113,24 @@ fn paper_command_of(live: &Live, first: Entry) -> Option<Command>
             paper: Some(paper),
             value,
         }),
+        Entry::Tagged { paper, tag, on } => Some(Command::Tag {
+            paper: Some(paper),
+            tag,
+            on,
+        }),
+        Entry::Decided { paper, decision } => Some(Command::Decide {
+            paper: Some(paper),
+            decision,
+        }),
+        other => written_command_of(live, other),
+    }
+}
+
+/// The same, where the command keeps a form, a comment or a response, or where it names a user.
+fn written_command_of(live: &Live, first: Entry) -> Option<Command>
+    ensures { result ≡ written_command_told live.now.tables first }
+{
+    match first {
         Entry::Reviewed { paper, form, .. } => Some(Command::Review {
             paper: Some(paper),
             form,
@@ -124,15 +142,6 @@ fn paper_command_of(live: &Live, first: Entry) -> Option<Command>
         Entry::Responded { paper, text } => Some(Command::Respond {
             paper: Some(paper),
             text,
-        }),
-        Entry::Tagged { paper, tag, on } => Some(Command::Tag {
-            paper: Some(paper),
-            tag,
-            on,
-        }),
-        Entry::Decided { paper, decision } => Some(Command::Decide {
-            paper: Some(paper),
-            decision,
         }),
         other => target_command_of(live, other),
     }
