@@ -49,7 +49,8 @@ use std::snapshot::Snapshot;
 ///
 /// Contracts see the history, the keeper, and the keeper as it was when the book was opened. Of every book it is true
 /// that the history is legal, that the tables are the history's, and that the keeper's rows, where it tells them, are
-/// the history's; and, where it tells what a stop of the machine may leave, that this opens to whole groups.
+/// the history's; and, where it tells what a stop of the machine may leave, that this opens to whole groups, and that
+/// what it tried in vain since the opening was counted. The keeper is of the kind that it was when the book was opened.
 pub struct Book<K: Keeper> {
     alloc: Global,
     log: Log,
@@ -134,7 +135,7 @@ impl<K: Keeper> Book<K> {
     /// What a stop of the machine since the opening might have left opens to the rows of a history that goes on from
     /// the one that was opened and is a beginning of the last one, or to these and then whole the group of one
     /// command or bulk more: that is so where the keeper tells it, and had tried nothing in vain when the book was
-    /// opened.
+    /// opened. Something was tried in vain since then only if its count of faults rose, or stands at its last value.
     pub fn close(self) -> K
         ensures same { result ≡ self.keeper }
         ensures kept { IsKept K.rows result self.log }
@@ -450,17 +451,26 @@ impl<K: Keeper> Book<K> {
     /// The answer to a query of this caller, a registered user, or nobody where no login is wanted for the
     /// query; or the first broken rule, which is told whatever memory there is, but for `NoPlan`, which memory finds.
     /// `AnswerError::OutOfMemory` comes for lack of memory alone, and never where the state of the conference is asked
-    /// for. The keeper isn't asked. Its rules are asked first, which costs what `may` of `cr_view` does; a query that
-    /// breaks none costs besides: `Query::Accounts` a walk over all accounts, `Query::AcceptedPapers` one over
-    /// all papers, with a few look-ups for each that is accepted, `Query::Page` a few look-ups, one more for each name
-    /// that is told, a step for each version and each tag that is told, and, where reviewers are told, a walk over the
-    /// paper's forms, `Query::Me` what `me` of `cr_view` does, `Query::Reviews` a walk over the paper's forms, and two
-    /// more at most for each of its labels, of which there are at most 26, `Query::Comments` a walk over the comments
-    /// on the paper with a look-up each, `Query::Response` a few reads by number, `Query::Content` and `Query::Version`
-    /// one look-up, `Query::Search` a walk over all papers, which costs each what `found` of `cr_search_eval` says,
-    /// `Query::Report` what `cr_reports` says of each report, `Query::Plan` what `answer` of `cr_plans` does,
-    /// `Query::Phase` and `Query::Deadlines` nothing that grows. But for a search and a letter, the length of texts
-    /// and contents makes no difference.
+    /// for. The keeper isn't asked.
+    ///
+    /// Its rules are asked first, which costs what `may` of `cr_view` does. A query that breaks none costs besides:
+    ///
+    /// - `Accounts`: a walk over all accounts.
+    /// - `AcceptedPapers`: a walk over all papers, with a few look-ups for each that is accepted.
+    /// - `Page`: a few look-ups, one more for each name that is told, a step for each version and each tag that is
+    ///   told, and, where reviewers are told, a walk over the paper's forms.
+    /// - `Me`: what `me` of `cr_view` does.
+    /// - `Reviews`: a walk over the paper's forms, and two more at most for each of its labels, of which there are at
+    ///   most 26.
+    /// - `Comments`: a walk over the comments on the paper with a look-up each.
+    /// - `Response`: a few reads by number.
+    /// - `Content`, `Version`: one look-up.
+    /// - `Search`: a walk over all papers, each of which costs what `matches` of `cr_search_eval` says.
+    /// - `Report`: what `cr_reports` says of each report.
+    /// - `Plan`: what `answer` of `cr_plans` does.
+    /// - `Phase`, `Deadlines`: nothing that grows.
+    ///
+    /// But for a search and a letter, the length of texts and contents makes no difference.
     pub fn answer(&self, caller: &Option<UserNo>, query: &Query) -> Result<Reply, AnswerError>
         requires { MayAsk self.now.log (needs_login (view None self.now.log) query.now) caller.now }
         ensures answered { AnswersOrPlans result (answer caller.now (view caller.now self.now.log) query.now) }
