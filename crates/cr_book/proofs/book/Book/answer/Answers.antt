@@ -45,7 +45,11 @@ answer-requires g c =
     let may = subst (λ (h : History). MayAsk h (needs_login (view None h) q) u) (sym same) c.requires in
     record {
       caller = asker-there c.self.inside.log.entries u q
-          (record { search = c.in_default.not-Search; report = c.in_default.not-Report; plan = c.in_default.not-Plan })
+          (record {
+            search = c.in_default-query.not-Search;
+            report = c.in_default-query.not-Report;
+            plan = c.in_default-query.not-Plan;
+          })
           may;
     }
 
@@ -71,8 +75,8 @@ returns-in-Plan-clause-answered g c =
     (answer c.args.caller.now (view c.args.caller.now c.args.self.now.log) q))
     (sym c.in-Plan.is) c.answer_plan.ensures
 
-pub returns-in_default-clause-answered : goal.returns-in_default-clause-answered
-returns-in_default-clause-answered g c =
+pub returns-in_default-query-clause-answered : goal.returns-in_default-query-clause-answered
+returns-in_default-query-clause-answered g c =
     let u = c.args.caller.now in
     let q = c.args.query.now in
     let same = ap (λ (v : SeenBook g.row.K.Denot). v.log) c.self.view_is in

@@ -6,6 +6,7 @@ use Rattle.cr_base.specs.Tables.{Tables, tables_from}
 use Rattle.cr_log.specs.Given.{MayFollow}
 use Rattle.cr_policy.specs.Legal.{Legal}
 use Rattle.cr_ports.specs.Keeping.{and_rows}
+use Rattle.cr_book.specs.declared.book.BookError.{BookError}
 use Rattle.cr_book.specs.declared.book.BookError.TheVariants as errors
 use Rattle.cr_book.specs.Sound.{IsSound}
 use Rattle.cr_book.specs.Seen.{SeenBook}
@@ -134,7 +135,7 @@ returns-clause-stops g c = λ tells.
     let told = subst (λ (v : SeenBook g.row.K.Denot). IsTrue (K.tells_stops v.keeper)) (sym c.self.view_is) tells in
     let inside = c.self.inside in
     let same = ap (λ (v : SeenBook g.row.K.Denot). v.log) c.self.view_is in
-    subst (λ (v : SeenBook g.row.K.Denot). Adding K (Ok (tt
+    subst (λ (v : SeenBook g.row.K.Denot). Adding K {E = BookError g.row.B.Denot} (Ok (tt
     {0})) v.log
     c.args.group.items v.keeper c.append_all.new.self)
     c.self.view_is
@@ -155,7 +156,7 @@ returns-in-Err-Failed-clause-stops g c = λ tells.
     let inside = c.self.inside in
     let same = ap (λ (v : SeenBook g.row.K.Denot). v.log) c.self.view_is in
     subst (λ (v : SeenBook g.row.K.Denot). Adding K {T = Unit
-    {0}}
+    {0}} {E = BookError g.row.B.Denot}
     (Err errors.KeeperFault) v.log c.args.group.items v.keeper c.append_all.new.self)
     c.self.view_is
     (refused_adds K inside.opened.value
@@ -176,7 +177,7 @@ returns-in-Err-OutOfMemory-clause-stops g c = λ tells.
     let inside = c.self.inside in
     let same = ap (λ (v : SeenBook g.row.K.Denot). v.log) c.self.view_is in
     subst (λ (v : SeenBook g.row.K.Denot). Adding K {T = Unit
-    {0}}
+    {0}} {E = BookError g.row.B.Denot}
     (Err errors.OutOfMemory) v.log c.args.group.items v.keeper c.append_all.new.self)
     c.self.view_is
     (refused_adds K inside.opened.value
