@@ -1,5 +1,6 @@
--- TwoRuns: two runs that agree in what a user wishes, and at which moments, and in what she sees at each of her wishes
--- agree in every byte that she is answered (in the manner of noninterference: Goguen and Meseguer, 1982).
+-- TwoRuns: two runs that agree in what a user wishes, at which moments, and whether the connection closes behind it, and
+-- in what she sees at each of her wishes agree in every byte that she is answered (in the manner of noninterference:
+-- Goguen and Meseguer, 1982).
 use Rattle.std.specs.Prelude.{◌≡◌, ◌==◌, ℕ, List, [], ◌∷◌, ◌++◌, Option, Some, None, Bool, true, false}
 use Rattle.cr_base.specs.History.{History}
 use Rattle.cr_base.specs.Lists.{given}

@@ -9,10 +9,10 @@ ghost use Rattle.cr_session.specs.TwoRuns.{TwoRuns};
 
 use cr_ports::Keeper;
 
-/// Two runs that agree in a user's wishes, with their moments, and in what she sees at each of them agree in every byte
-/// that she is answered. A run opens with any history; whoever else may ask whatever else in it, at whatever moments;
-/// nothing accepted is lost in it. The user is any, nobody among them; her wishes are those whose caller she is at
-/// their turn.
+/// Two runs that agree in a user's wishes, with their moments and with whether the connection closes behind each, and in
+/// what she sees at each of them agree in every byte that she is answered. A run opens with any history; whoever else
+/// may ask whatever else in it, at whatever moments; nothing accepted is lost in it. The user is any, nobody among them;
+/// her wishes are those whose caller she is at their turn.
 pub fn law_two_runs()
     ensures { TwoRuns }
 {}

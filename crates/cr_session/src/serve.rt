@@ -73,17 +73,21 @@ struct Workspace {
     reply: Vec<u8>,
     /// The date of the last answer, which serves again within its second.
     date: Date,
+    /// The number of the request that comes next, from 0.
+    number: usize,
 }
 
 impl Workspace {
-    /// Without a byte in its inbox; an error only for lack of memory.
+    /// Without a byte in its inbox, ahead of the first request; an error only for lack of memory.
     fn new(alloc: Global) -> Result<Workspace, AllocError>
-        ensures { IfOk result (λ space. (space.inbox ≡ []) × (512 ≤ vec_capacity space.reply)) }
+        ensures { IfOk result
+            (λ space. (space.inbox ≡ []) × (512 ≤ vec_capacity space.reply) × (space.number ≡ 0)) }
     {
         Ok(Workspace {
             inbox: RoutedInbox::new(alloc)?,
             reply: Vec::with_capacity(alloc, ANSWER_ROOM)?,
             date: Date::of(Moment::epoch()),
+            number: 0,
         })
     }
 
@@ -91,7 +95,8 @@ impl Workspace {
     /// is written anew.
     fn sending(&mut self, is_head: bool, closes: bool, at: Moment) -> Sending
         ensures sending { result ≡ record { is_head = is_head; closes = closes; date = at } }
-        ensures kept { (self.new.inbox ≡ self.old.inbox) × (self.new.reply ≡ self.old.reply) }
+        ensures kept { (self.new.inbox ≡ self.old.inbox) × (self.new.reply ≡ self.old.reply)
+            × (self.new.number ≡ self.old.number) }
     {
         let last = self.date;
         let date = last.renewed(at);
@@ -114,28 +119,28 @@ fn closes(wish: &Wish, number: usize) -> bool
     wish.asks_close || number == LAST_REQUEST
 }
 
-/// Judges one request in one turn, and writes its answer, in room that was made when the connection began, with the
-/// date of the wish's moment.
+/// Judges the next request in one turn, and writes its answer, in room that was made when the connection began, with
+/// the date of the wish's moment.
 fn serve_request<R: Wait, K: Keeper, O: Sink>(
     server: &Server<'_, R, K>,
     pass: &mut Pass<Book<K>>,
     sink: &mut O,
     space: &mut Workspace,
     wish: Wish,
-    number: usize,
 ) -> RequestOutcome
     requires own { pass.old.lock ≡ server.now.lock.lock }
     requires few { pass.old.turns < 2 ^ 40 }
     requires bounded { IsBoundedWish wish }
     requires room { 512 ≤ vec_capacity space.old.reply }
     ensures serves { let tries = tries_of K.Keeper in
-        ServesRequest tries result number wish pass.old pass.new (outlet_of O.taken O.faults sink.old)
+        ServesRequest tries result space.old.number wish pass.old pass.new (outlet_of O.taken O.faults sink.old)
         (outlet_of O.taken O.faults sink.new) }
     ensures pass { StaysPass 1 pass.old pass.new }
     ensures inbox { space.new.inbox ≡ space.old.inbox }
     ensures room { 512 ≤ vec_capacity space.new.reply }
+    ensures number { space.new.number ≡ space.old.number }
 {
-    let close = closes(&wish, number);
+    let close = closes(&wish, space.number);
     let sending = space.sending(wish.is_head, close, wish.at);
     space.reply.clear();
     let turn = in_turn(server, pass, wish);
@@ -178,6 +183,7 @@ fn refuse<O: Sink>(
     ensures refuses { WritesRefusal result why is_head at (outlet_of O.taken O.faults sink.old)
         (outlet_of O.taken O.faults sink.new) }
     ensures room { 512 ≤ vec_capacity space.new.reply }
+    ensures number { space.new.number ≡ space.old.number }
 {
     let sending = space.sending(is_head, true, at);
     space.reply.clear();
@@ -219,7 +225,7 @@ fn write_note<O: Sink>(sink: &mut O, is_head: bool, at: Moment)
     let _ = write_answer(sink, no_memory_text(is_head, Date::of(at)).as_slice());
 }
 
-/// Reads request number `number` and serves it; an ending where it is the last.
+/// Reads the next request and serves it; an ending where it is the last.
 fn serve_next_request<R: Wait, K: Keeper, S: Source, O: Sink, C: Clock>(
     server: &Server<'_, R, K>,
     pass: &mut Pass<Book<K>>,
@@ -227,23 +233,23 @@ fn serve_next_request<R: Wait, K: Keeper, S: Source, O: Sink, C: Clock>(
     sink: &mut O,
     clock: &mut C,
     space: &mut Workspace,
-    number: usize,
 ) -> Option<Ending>
     requires own { pass.old.lock ≡ server.now.lock.lock }
     requires few { pass.old.turns < 2 ^ 40 }
     requires room { 512 ≤ vec_capacity space.old.reply }
     ensures round { let world = world_of S.faults O.taken O.faults C.coming C.faults in
         let tries = tries_of K.Keeper in
-        OneRound tries S.left S.read_gives result number space.old.inbox space.new.inbox
+        OneRound tries S.left S.read_gives result space.old.number space.old.inbox space.new.inbox
         (world pass.old source.old sink.old clock.old) (world pass.new source.new sink.new clock.new) }
     ensures pass { StaysPass 1 pass.old pass.new }
     ensures room { 512 ≤ vec_capacity space.new.reply }
+    ensures number { space.new.number ≡ space.old.number }
 {
     match read_wish(server.alloc, source, &mut space.inbox, clock) {
         WishRead::Wish(wish) => {
             let is_head = wish.is_head;
             let at = wish.at;
-            match serve_request(server, pass, sink, space, wish, number) {
+            match serve_request(server, pass, sink, space, wish) {
                 RequestOutcome::Goes => None,
                 RequestOutcome::Closes => Some(Ending::Closed(Why::Asked)),
                 RequestOutcome::WriteFault => Some(Ending::WriteFault),
@@ -276,10 +282,11 @@ fn serve_next_request<R: Wait, K: Keeper, S: Source, O: Sink, C: Clock>(
 /// answer's.
 ///
 /// Each ending's cause is in the contract: `Clean`, `Cut` and `Closed` exactly by what the bytes spell,
-/// `ReadFault`, `WriteFault` and `ClockFault` only where that count of faults rose, or stands at its last value, and no
-/// count rises elsewhere, but for the clock's where it fails to give the moment of the note that memory ran out. Behind
-/// an answer that couldn't be written no request is judged, and behind one that closes no byte is read. A request for
-/// whose answer the clock failed isn't judged, and nothing is written for it.
+/// `ReadFault`, `WriteFault` and `ClockFault` only where that count of faults rose, or stands at its last value. With
+/// every other ending the counts stay, but where memory ran out: the clock's may rise as it fails to give the moment of
+/// the note, and the sink's as the note's write breaks off. Behind an answer that couldn't be written no request is
+/// judged, and behind one that closes no byte is read. A request for whose answer the clock failed isn't judged, and
+/// nothing is written for it.
 ///
 /// `OutOfMemory` comes for lack of memory alone. The room for answers is made at the beginning: where it
 /// can't be had, the connection ends before anything is read. Later, memory may run out for more bytes,
@@ -316,13 +323,10 @@ pub fn serve_connection<R: Wait, K: Keeper, S: Source, O: Sink, C: Clock>(
     let Ok(mut space) = Workspace::new(server.alloc) else {
         return note_no_memory(sink, clock, false, None);
     };
-    let mut number = 0;
     'serving: loop {
-        if let Some(ending) = serve_next_request(
-            server, pass, source, sink, clock, &mut space, number,
-        ) {
+        if let Some(ending) = serve_next_request(server, pass, source, sink, clock, &mut space) {
             return ending;
         }
-        number += 1;
+        space.number += 1;
     }
 }

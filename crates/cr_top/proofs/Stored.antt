@@ -1,4 +1,4 @@
--- ShelfState that open, and stores that don't.
+-- Stores that open, and stores that don't.
 use Rattle.std.proofs.Common.{◌≡◌, ◌∙◌, ◌≤◌, ◌<◌, ◌++◌, ◌⊎◌, ⊎_elim, inl, inr, ℕ, List, [], ◌∷◌, length, Bool, true}
 use Rattle.std.proofs.Common.{false}
 use Rattle.std.proofs.Common.{Option, Some, None, Result, Ok, Err, IfSome, refl, sym, ap, ap₂, subst, arith}

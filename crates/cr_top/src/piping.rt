@@ -18,9 +18,10 @@ use std::sync::Wait;
 /// It has the only pass of the lock that it makes round the book, so it waits for nobody.
 ///
 /// `ReadFault` comes only where the count of `input` has risen, or stands at its last value, `WriteFault` so for
-/// `out` and `ClockFault` so for `clock`, and no other ending lets a count rise, but for the clock's where it fails
-/// to give the moment of the note that memory ran out. `OutOfMemory` comes for lack of memory alone, and behind a wish
-/// that was read only where it wanted some: see `serve_connection`.
+/// `out` and `ClockFault` so for `clock`. With every other ending these counts stay, but where memory ran out: the
+/// clock's may rise as it fails to give the moment of the note, and that of `out` as the note's write breaks off.
+/// `OutOfMemory` comes for lack of memory alone, and behind a wish that was read only where it wanted some: see
+/// `serve_connection`.
 pub fn pipe<R: Wait, K: Keeper, I: Source, O: Sink, C: Clock>(
     rt: &R,
     alloc: Global,

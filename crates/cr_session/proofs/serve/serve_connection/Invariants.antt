@@ -10,12 +10,12 @@ invariant-serving g l =
     let K = g.K.Keeper in
     let tries = tries_of K in
     record {
-      goes_on : GoesOnInHistory tries g.S.Source.left g.S.Source.read_gives l.number 0 [] l.space.inbox
+      goes_on : GoesOnInHistory tries g.S.Source.left g.S.Source.read_gives l.space.number 0 [] l.space.inbox
           (world l.initial.pass l.initial.source l.initial.sink l.initial.clock) (world l.pass l.source l.sink l.clock);
-      few : l.number ≤ 1048575;
-      pass : StaysPass l.number l.initial.pass l.pass;
+      few : l.space.number ≤ 1048575;
+      pass : StaysPass l.space.number l.initial.pass l.pass;
       room : 512 ≤ vec_capacity l.space.reply;
     }
 
 abbrev pub decreases-serving : goal.decreases-serving
-decreases-serving g l = 1048576 - l.number
+decreases-serving g l = 1048576 - l.space.number

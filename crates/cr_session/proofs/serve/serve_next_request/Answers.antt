@@ -13,7 +13,7 @@ returns-in-Goes-clause-round g c =
     let w' = world c.serve_request.new.pass c.read_wish.new.source c.serve_request.new.sink c.read_wish.new.clock in
     let K = g.K.Keeper in
     let tries = tries_of K in
-    subst (λ (inbox : List ℕ). GoesOnInHistory tries g.S.Source.left g.S.Source.read_gives 1 c.args.number
+    subst (λ (inbox : List ℕ). GoesOnInHistory tries g.S.Source.left g.S.Source.read_gives 1 c.args.space.now.number
     c.args.space.now.inbox inbox w w')
     (sym c.serve_request.ensures.inbox)
     (round_goes tries g.S.Source.left g.S.Source.read_gives _ _ _ _ w w' c.in-Wish.ensures.reads c.in-Wish.ensures.clock

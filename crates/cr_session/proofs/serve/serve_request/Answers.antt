@@ -18,7 +18,7 @@ returns-in-Ok-clause-serves g c =
     let same = c.sending-sending.ensures.sending in
     let block = c.block_of-block.result.now in
     serves_sent tries c.args.wish (ledger_of K.faults t.0) (ledger_of K.faults t.1) t.0 t.1 c.args.pass.now
-    c.in_turn-turn.new.pass t.2 t.3 t.6 turn c.send.result c.args.number close
+    c.in_turn-turn.new.pass t.2 t.3 t.6 turn c.send.result c.args.space.now.number close
     (c.print_turn.new.reply.items ++ block) _ _
     c.in_default.not-OutOfMemory t.4 t.5 c.closes-close.ensures
     (ap (λ f. f ++ block) (c.in-Ok.ensures.ok ∙ ap (turn_front turn) same)
