@@ -428,9 +428,11 @@ groups-kept {K} tells keepers left at book keeper' there begins shut history kep
     ((kept told b.none).since image (subst (λ (t : ℕ). keepers.left_since keeper' t image) b.at (shut told image may)))
   where
     opened-rows : (first : Option (List Row)) → IsTrue (is_some first) → IfSome first (λ r. rows_of book.log ≡ r)
-        → OpensAmid opens first history image → OpensAmid opens (Some (rows_of book.log)) history image
+        → OpensAmid keepers.opens first history image
+        → OpensAmid keepers.opens (Some (rows_of book.log)) history image
     opened-rows None none is a = absurd (false≢true none)
-    opened-rows (Some r) some is a = subst (λ (x : List Row). OpensAmid opens (Some x) history image) (sym is) a
+    opened-rows (Some r) some is a =
+        subst (λ (x : List Row). OpensAmid keepers.opens (Some x) history image) (sym is) a
 
 -- What a book's keeper keeps, its shelf tells once the keeper was shut. The book was opened over a keeper of a path at
 -- which the shelf's keepers tell so.
