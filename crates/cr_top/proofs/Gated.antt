@@ -1,6 +1,6 @@
 -- Gates that were opened over a store, and what the exits of serving tell.
-use Rattle.std.proofs.Common.{◌≡◌, ◌≢◌, ◌∙◌, ℕ, ◌*◌, ◌^◌, ◌≤◌, ◌⊎◌, inl, inr, List, [], ◌∷◌, length, map, Bool, true}
-use Rattle.std.proofs.Common.{false, Option, Some, None, refl, sym, ap, subst, arith}
+use Rattle.std.proofs.Common.{◌≡◌, ◌≢◌, ◌∙◌, ℕ, ◌+◌, ◌*◌, ◌^◌, ◌≤◌, ◌⊎◌, inl, inr, List, [], ◌∷◌, length, map, Bool}
+use Rattle.std.proofs.Common.{true, false, Option, Some, None, refl, sym, ap, subst, arith}
 use Rattle.std.specs.Prelude.{All, IfSome, IsFalse, IsTrue, sum, sum_by}
 use Rattle.std.proofs.lemmas.List.{length-map}
 use Rattle.cr_base.specs.declared.row.Row.{Row}

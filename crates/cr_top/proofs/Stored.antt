@@ -463,25 +463,25 @@ module _ {K : Type 0} (tells : Bool) (keepers : Keepers K) (left : List ℕ → 
     };
     stops =
         groups-kept tells keepers (left path) at book keeper'
-        (λ yes. keepers.rows_told book.opened (so ∙ yes)) begins (λ yes. shut (so' ∙ yes)) history
-        (λ yes. kept (so' ∙ yes));
+        (λ says. keepers.rows_told book.opened (so ∙ says)) begins (λ says. shut (so' ∙ says)) history
+        (λ says. kept (so' ∙ says));
   }
     where
       rose : IsTrue tells → (added : List Row) → IsAmong (keepers.tried keeper') added → Rises s.faults s'.faults
-      rose yes added among =
-          let b = begins yes in
+      rose says added among =
+          let b = begins says in
           ⊎_elim (λ none. absurd (subst (λ (l : List (List Row)). IsAmong l added) none among))
           (λ up. risen s.faults (keepers.faults keeper') s'.faults
           (subst (λ (n : ℕ). Rises n (keepers.faults keeper')) (ap keepers.faults (sym b.still) ∙ opened.fresh) up)
           (count-now tells keepers.rows keepers.tried keepers.faults path book keeper' s m s' opened there-now others
           gains))
-          ((told-count (so' ∙ yes)).counted b.none)
+          ((told-count (so' ∙ says)).counted b.none)
 
       follows : IsTrue tells → (added : List Row) → IsAmong (keepers.tried keeper') added
           → (group : History) × IsGroupInVain history s s' group × (added ≡ rows_of group)
-      follows yes added among =
-          let f = (kept (so' ∙ yes) (begins yes).none).tried_follow added among in
-          (f.0, record { adds = f.1; counted = rose yes added among }, f.2)
+      follows says added among =
+          let f = (kept (so' ∙ says) (begins says).none).tried_follow added among in
+          (f.0, record { adds = f.1; counted = rose says added among }, f.2)
 
   -- a keeper that has counted no fault leaves the rows of its history and no more
   pub exact-rows : (IsTrue (keepers.tells_stops keeper') → CountsTried keepers book.opened keeper')
@@ -492,16 +492,16 @@ module _ {K : Type 0} (tells : Bool) (keepers : Keepers K) (left : List ℕ → 
       (stand tells keepers.rows keepers.tried keepers.faults path book keeper' s m s' opened there-now others gains
       history
       is
-      alike (λ group. ⊥) (λ yes added among. absurd (untried yes added among)))
+      alike (λ group. ⊥) (λ says added among. absurd (untried says added among)))
     where
       untried : IsTrue tells → (added : List Row) → IsAmong (keepers.tried keeper') added → ⊥
-      untried yes added among =
-          let b = begins yes in
+      untried says added among =
+          let b = begins says in
           ⊎_elim (λ empty. subst (λ (l : List (List Row)). IsAmong l added) empty among)
           (λ up. let first : keepers.faults book.opened ≡ 0 = ap keepers.faults (sym b.still) ∙ opened.fresh in
           let more = up (omega (arith, none)) in
           absurd (omega (arith, first, none, more)))
-          ((told-count (so' ∙ yes)).counted b.none)
+          ((told-count (so' ∙ says)).counted b.none)
 
       alone : (before : Option (List Row))
           → IfSome before (λ b. (s'.rows path ≡ Some (rows_of history))
@@ -518,17 +518,17 @@ module _ {K : Type 0} (tells : Bool) (keepers : Keepers K) (left : List ℕ → 
   wishes-kept judged kept = record {
     there = stand tells keepers.rows keepers.tried keepers.faults path book keeper' s m s' opened there-now others
         gains history is alike
-        (IsLostGroup judged history) (λ yes. (kept-so yes).lost);
-    stops = λ yes image may. (kept-so yes).since image
-        (let b = begins yes in
+        (IsLostGroup judged history) (λ says. (kept-so says).lost);
+    stops = λ says image may. (kept-so says).since image
+        (let b = begins says in
         subst (λ (t : ℕ). keepers.left_since keeper' t image) (b.at ∙ sym (ap keepers.moment b.still))
-        (shut (so' ∙ yes) image may));
+        (shut (so' ∙ says) image may));
   }
     where
       kept-so : IsTrue tells → KeepsWishes keepers book.keeper keeper' book.log history judged
-      kept-so yes =
-          let b = begins yes in
-          kept (ap keepers.tells_stops b.still ∙ so ∙ yes) (ap keepers.tried b.still ∙ b.none) b.between
+      kept-so says =
+          let b = begins says in
+          kept (ap keepers.tells_stops b.still ∙ so ∙ says) (ap keepers.tried b.still ∙ b.none) b.between
 
 -- what stands where a keeper was shut, by whether it tells what a stop leaves
 pub stands-by : (one other : Bool) → one ≡ other → (told : Option (List Row)) (tried : List (List Row))

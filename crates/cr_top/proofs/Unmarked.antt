@@ -23,12 +23,12 @@ rises-snoc : (ts : List (Turn Stamped)) (t : Turn Stamped) → rises (ts ++ t �
 rises-snoc [] t = omega arith
 rises-snoc (u ∷ us) t = let i = rises-snoc us t in omega (arith, i)
 
-rise-one : (lost : Bool) (f g : ℕ) → CountsLoss lost f g → cond lost 1 0 ≡ 0 → g - f ≡ 0
+rise-one : (lost : Bool) (f g : ℕ) → CountsLoss lost f g → ◌≡◌ {A = ℕ} (cond lost 1 0) 0 → g - f ≡ 0
 rise-one true f g c none = absurd (omega (arith, none))
 rise-one false f g c none = omega (arith, c)
 
 module _ {K : Type 0} (tries : Tries K) where
-  rises-turn : (j : JudgedWish) (p q : KnownPass K) → TakesTurn tries j p q → cond j.lost 1 0 ≡ 0
+  rises-turn : (j : JudgedWish) (p q : KnownPass K) → TakesTurn tries j p q → ◌≡◌ {A = ℕ} (cond j.lost 1 0) 0
       → rises q.mine ≡ rises p.mine
   rises-turn j p q t none =
       let e : rises q.mine ≡ rises p.mine + (t.faults' - t.faults) =
