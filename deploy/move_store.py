@@ -205,10 +205,13 @@ def go_on():
 
 
 def main():
-    words = argparse.ArgumentParser(usage="move_store.py [--confd PROGRAM] FROM TO")
-    words.add_argument("--confd", default="confd")
-    words.add_argument("source", metavar="FROM")
-    words.add_argument("to", metavar="TO")
+    words = argparse.ArgumentParser(
+        usage="move_store.py [--confd PROGRAM] FROM TO",
+        description="Makes a journal of a database, or a database of a journal. Stop confd before.",
+    )
+    words.add_argument("--confd", default="confd", metavar="PROGRAM", help="confd, if it isn't on the path")
+    words.add_argument("source", metavar="FROM", help="the store that there is, left unchanged")
+    words.add_argument("to", metavar="TO", help="the new store; a journal's name ends in .cj")
     told = words.parse_args()
     source, to = os.path.abspath(told.source), os.path.abspath(told.to)
     signal.pthread_sigmask(signal.SIG_BLOCK, ENDINGS)
