@@ -44,6 +44,7 @@ BANNED = (
     (r"\bwants a login\b", "requires authentication"),
     (r"\bsightings?\b", "what an entry shows"),
     (r"(?:^|[.!?] )(?:Neither|Nor|So is|So are)\b", "a sentence that says who does what"),
+    (r"[.!?:;] - (?=[A-Z])", "each item of a list on a line of its own"),
 )
 
 
