@@ -11,8 +11,8 @@ each run. `--tenth` takes a tenth of all except the people, for a first look. No
 - commands: one more bid, comment and tag where 10,000, 40,000 and 160,000 are there, by `confd pipe` without a store.
   Beside it SQLite, in memory and through Python's module, takes the same rows into a table with a key, in one
   transaction. The goal: with 160,000 a command costs at most 1.3 times what it does with 10,000.
-- stores: a row of 300,000 comments, 300,000 bids or 30,000 forms of a store that is opened. The goal: at most twice
-  what it costs where there are a tenth of them.
+- stores: a row of 300,000 comments, 300,000 bids, 30,000 forms, 300,000 tags that came in bulks of 512, or 3,000
+  contents of 32 KiB, of a store that is opened. The goal: at most twice what it costs where there are a tenth of them.
 - memory: the most of `confd pipe`, without a store, with five conflicts, twenty bids, three reviews of 1,000 bytes and
   ten comments of 100 on each paper. The goal: 1.5 times the texts and 300 bytes a record, with nothing taken off.
 
@@ -40,7 +40,9 @@ from lib.wire import move_to, request
 SEED = 37
 PART = 10 if "--tenth" in sys.argv else 1
 COUNT, LEVELS, MORE = PAPERS // PART, [level // PART for level in (10_000, 40_000, 160_000)], 5_000 // PART
-STORED = {"comments": 300_000 // PART, "bids": 300_000 // PART, "forms": 30_000 // PART}
+STORED = {"comments": 300_000 // PART, "bids": 300_000 // PART, "forms": 30_000 // PART,
+          "tags of bulks": 300_000 // PART, "contents": 3_000 // PART}
+BULK, CONTENT = 512, bytes(1 << 15)
 PHASES = ["setup", "submission", "bidding", "reviewing", "discussion"]
 WORDS, LABELS = 100, 3  # the tags that there are, and the reviewers of a paper
 TEXT = "Why is that so?"
@@ -168,7 +170,15 @@ def stored(kind, count):
     rows += [(2, 1, 0, user, 1, 0, 0, 0, b"", b"") for user in members]
     phases = [(3, 1, 0, number, 0, 0, 0, 0, b"", b"") for number in range(len(PHASES))]
     submitted = [(5, p % AUTHORS + 2, 0, p, 0, 0, 0, 0, b"Proofs", b"We prove.") for p in papers]
+    contents = count if kind == "contents" else 0
+    submitted += [(8, p % AUTHORS + 2, 0, p, 1, 0, 0, 0, CONTENT, b"") for p in papers[:contents]]
     rows += phases[1:2] + submitted + phases[2:3]
+    if contents:
+        return rows
+    if kind == "tags of bulks":
+        mark = [int(turn % BULK > 0) for turn in range(1, count)] + [0]  # whether more rows of the bulk follow
+        return rows + [(16, 1, more, p, 1, 0, 0, 0, b"tag-%d" % word, b"")
+                       for more, (p, word) in zip(mark, pairs(count, WORDS))]
     if kind == "bids":
         return rows + [(11, members[n], 0, p, n % 41, 0, 0, 0, b"", b"") for p, n in pairs(count, MEMBERS)]
     forms, dice, drawn = kind == "forms", random.Random(SEED), {}

@@ -25,7 +25,7 @@ from lib.places import TOP
 KINDS = (".rt", ".antt", ".py", ".sh", ".md", ".case", ".edit", ".txt", ".http", ".conf", ".service")
 # Pages on which every name in backticks is one of code; on the others those with `_` or `::` are.
 CLAIMS = ("CLAIMS.md", "lib.rt")
-COLUMNS, WORDS = {".md": 100, ".rt": 120}, 43_000
+COLUMNS, WORDS = {".md": 100, ".rt": 120}, 41_200
 # What stands for a name of the reader's own, or is made when something runs.
 MADE = re.compile(r"FILE|NAME|PATH|BACKUP|COPY|/var/|/etc/|\bout/|assignments\.csv|[<>$]|^NO")
 # Names in backticks that no source has: an edit that can't be written, and a part of a goal's name.

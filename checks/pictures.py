@@ -33,7 +33,7 @@ EDGES = 'edge [fontname="DejaVu Sans", fontsize=10, color="#666666", fontcolor="
 
 # What only states theorems, what only defines, and what calls the system.
 THEOREMS = {"cr_bounds", "cr_told", "cr_conference", "cr_permissions", "cr_undeduced", "cr_laws"}
-DEFINITIONS = {"cr_history", "cr_policy", "cr_rooms"}
+DEFINITIONS = {"cr_history", "cr_policy", "cr_beginnings", "cr_rooms"}
 SYSTEM = {"cr_net", "cr_files", "cr_sqlite", "cr_notices", "cr_stores", "cr_process", "confd"}
 COLOURS = ((THEOREMS, "#f6e3c5"), (DEFINITIONS, "#dfe8d0"), (SYSTEM, "#e4e4e4"))
 

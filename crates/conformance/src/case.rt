@@ -24,7 +24,7 @@ pub struct Case {
     pub exit: Exit,
     /// What fails beside the connections.
     pub faults: Faults,
-    /// The rows that are in the store ahead of the run.
+    /// The rows that are in the store before the run.
     pub rows: Vec<Row>,
     /// The rows that are due there after it, if they are told.
     pub rows_due: Option<Vec<Row>>,
@@ -118,7 +118,7 @@ impl Case {
         answers
     }
 
-    /// Adds what a line says, which has this number in the file: once, or as often as `*N` ahead of it says.
+    /// Adds what a line says, which has this number in the file: once, or as often as `*N` before it says.
     pub fn add(&mut self, alloc: Global, number: usize, line: &str) -> Result<(), LineError> {
         if line.is_empty() || line.starts_with('#') {
             return Ok(());

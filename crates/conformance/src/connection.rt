@@ -7,7 +7,7 @@ use crate::time::Time;
 use cr_base::{Moment, Row};
 use std::alloc::Global;
 
-/// What is sent on one connection, if it fails, and what is due.
+/// What is sent on one connection, where that fails, and what is due.
 #[derive(Drop)]
 pub struct Talk {
     /// All that is sent.
@@ -16,11 +16,11 @@ pub struct Talk {
     pub due: Vec<u8>,
     /// The answers that are due, in order.
     pub answers: Vec<Mark>,
-    /// Behind how many bytes the input fails.
+    /// After how many bytes the input fails.
     pub read: Option<usize>,
-    /// Behind how many bytes the output fails.
+    /// After how many bytes the output fails.
     pub write: Option<usize>,
-    /// Where the bytes begin that aren't to be read, where some are told.
+    /// Where the bytes begin that aren't to be read, if the case names some.
     pub unread: Option<usize>,
     /// The moments that its clock gives: one an answer.
     pub moments: Vec<Moment>,
@@ -33,7 +33,7 @@ pub struct Talk {
 pub struct Mark {
     /// Its number in the file, from 1.
     pub line: usize,
-    /// How many bytes are sent ahead of it.
+    /// How many bytes are sent before it.
     pub sent: usize,
     /// How many bytes are due up to its end.
     pub end: usize,
@@ -50,7 +50,7 @@ pub struct Mark {
 /// One of many connections, or several that are alike.
 #[derive(Drop)]
 pub struct Connection {
-    /// What is sent on it, if it fails, and what is due.
+    /// What is sent on it, where that fails, and what is due.
     pub talk: Talk,
     /// How many are like this.
     pub count: usize,

@@ -5,48 +5,47 @@
 //! whole and cut into pieces in several ways, and gets a line: that all is as due, or the first difference. Each
 //! connection has a clock, which has a moment for each answer that is due there and no more.
 //!
-//! A case file is lines of these forms. What stands ahead of the first case stands ahead of each.
+//! A case file is lines of these forms. What precedes the first case is part of each.
 //!
 //! - `# TEXT`, or empty: nothing
 //! - `== TITLE`: a case begins
-//! - `$ WORDS`: the words of the command line, where they aren't `confd pipe`
-//! - `> NAME METHOD PATH [BODY]`: NAME sends a request with her secret `NAME-secret-000001`; a NAME with a point is
+//! - `$ WORDS`: the words of the command line, if they aren't `confd pipe`
+//! - `> NAME METHOD PATH [BODY]`: NAME sends a request with the secret `NAME-secret-000001`; a NAME with a point is
 //!   the token `NAME.SECRET`, `-` sends none
-//! - `>NUMBER NAME METHOD PATH [BODY]`: the same with the field `Command-Number`, whose value has no space as it stands
-//! - `< CODE CONTENT`: an answer is due, and its date with it; `<!` where the connection closes behind it
-//! - `< CODE HEAD CONTENT`: an answer to HEAD is due: the head alone of what GET would be answered
-//! - `< CODE Allow: METHODS; CONTENT`: the same with the field Allow
-//! - `< CODE bytes: CONTENT`: an answer with a paper's content is due, which is no JSON; behind `HEAD` too
-//! - `< CODE text: CONTENT`: an answer with a report is due, which is plain text; behind `HEAD` too
+//! - `>NUMBER NAME METHOD PATH [BODY]`: such a request with the field `Command-Number`, whose value has no space
+//! - `< CODE CONTENT`: an answer is due, with its date; `<!` if the connection closes after it
+//! - `< CODE HEAD CONTENT`: an answer to HEAD is due: only the head of what GET would be answered
+//! - `< CODE Allow: METHODS; CONTENT`: an answer with the field Allow is due
+//! - `< CODE bytes: CONTENT`: an answer with a paper's content is due, which is no JSON; after `HEAD` too
+//! - `< CODE text: CONTENT`: an answer with a report is due, which is plain text; after `HEAD` too
 //! - `>>[N] TEXT`, `<<[N] TEXT`: bytes are sent, are due, N times
 //! - `*N LINE`: N times that line, with the number of the time, from 1, in place of each `\#`
-//! - `!read [N]`, `!write [N]`: the input fails behind what is sent so far, the output behind what
-//!   is due so far, or N bytes later
-//! - `@ ROW`: a row that stands in the store `f`, or `f.cj` where the words name that, ahead of the run:
-//!   `KIND MAKER MORE AT NUM MARK N1 N2 N3 N4 N5 B1 B2`, `-` for no bytes, `#` ahead of hexadecimal digits
-//! - `@N ROW`: the same in place of row number N, from 0, of those told so far
-//! - `=@ same`, `=@ ROW`: the rows that are due there behind the run: those that stood there
-//!   ahead of it; and then this one
+//! - `!read [N]`, `!write [N]`: the input fails after what is sent so far, the output after what is due so far, or N
+//!   bytes later
+//! - `@ ROW`: a row that is in the store `f`, or `f.cj` if the words name that, before the run:
+//!   `KIND MAKER MORE AT NUM MARK N1 N2 N3 N4 N5 B1 B2`, `-` for no bytes, `#` before hexadecimal digits
+//! - `@N ROW`: such a row in place of row number N, from 0, of those told so far
+//! - `=@ same`, `=@ ROW`: the rows that are due there after the run: those that were there before it; and then this one
 //! - `!open`: the store can't be opened
-//! - `!append N`, `!row N`: append number N, from 1, fails, from 2 where rows stand in the store ahead;
-//!   any other call of the keeper does
-//! - `!each end`, `!each read`, `!each write`: the case is run once for each place at which the input may
-//!   end, may fail, the output may fail
+//! - `!append N`, `!row N`: append number N, from 1, fails, from 2 if rows are in the store before; any other call of
+//!   the keeper does
+//! - `!each end`, `!each read`, `!each write`: the case is run once for each place at which the input may end, may
+//!   fail, the output may fail
 //! - `!each row`: the case is run once for each row at which the store may end
 //! - `~ SECONDS DATE`: answers that are told from here on have this date, and the clock gives these seconds for each;
-//!   where no line tells it, `784111777 Sun, 06 Nov 1994 08:49:37 GMT`
+//!   if no line tells it, `784111777 Sun, 06 Nov 1994 08:49:37 GMT`
 //! - `!clock N`: call number N of the clock fails, from 1; `!each clock`: the case is run once for each call that may
-//! - `!whole`: the case is run with its bytes whole alone
+//! - `!whole`: the case is run only with its bytes whole
 //! - `=cut`, `=usage`, `=read_fault`, `=write_fault`, `=keeper_fault`, `=listen_fault`, `=no_user`, `=clock_fault`:
-//!   how the run ends, where that isn't with status 0
+//!   how the run ends, if that isn't with status 0
 //! - `=bad_store ROW KIND`: it ends since that row, from 0, of that kind, is a bad one
-//! - `=rows N`: N rows are kept by the answer ahead of this line
-//! - `=unread`: what is sent from here on isn't read, where the bytes come one by one
-//! - `&[N]`: a connection of `serve` begins, or N that are alike; what stands ahead of the first
-//!   is of the program's own streams
-//! - `| CODE CONTENT`: this may be answered in place of the answer ahead of it, by the way in
-//!   which workers' turns interleave
-//! - `=kept ROW`: this row is kept exactly where the answer ahead of it is given, and none in its place
+//! - `=rows N`: N rows are kept by the answer before this line
+//! - `=unread`: what is sent from here on isn't read, if the bytes come one by one
+//! - `&[N]`: a connection of `serve` begins, or N that are alike; what precedes the first is of the program's own
+//!   streams
+//! - `| CODE CONTENT`: this may be answered in place of the answer before it, by the way in which workers' turns
+//!   interleave
+//! - `=kept ROW`: this row is kept if and only if the answer before it is given, and none in its place
 //! - `=times N CODE CONTENT`: N answers on all connections together are this one
 //! - `!gates`: the gates can't be opened
 //! - `!door N CALL`: call number CALL of door number N fails, both from 1

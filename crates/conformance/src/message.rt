@@ -24,7 +24,7 @@ fn phrase(code: &str) -> Option<&'static str> {
     }
 }
 
-// Adds texts, one behind the other.
+// Adds texts, one after the other.
 fn add_parts(into: &mut Vec<u8>, parts: &[&str]) -> Result<(), AllocError> {
     for part in parts {
         into.extend_from_slice(part.as_bytes())?;
@@ -91,7 +91,7 @@ pub fn add_request(
     Ok(())
 }
 
-// The fields that an answer has by its code alone: the challenge of a 401.
+// The fields that an answer has by its code: the challenge of a 401.
 fn challenge(code: &str) -> &'static str {
     match code {
         "401" => "WWW-Authenticate: Bearer realm=\"confd\"\r\n",
@@ -99,7 +99,7 @@ fn challenge(code: &str) -> &'static str {
     }
 }
 
-// Adds the field `Allow` of an answer that has it, and gives what is told behind it.
+// Adds the field `Allow` of an answer that has it, and gives what is told after it.
 fn add_allow<'a>(into: &mut Vec<u8>, text: &'a str) -> Result<&'a str, LineError> {
     let Some(rest) = text.strip_prefix("Allow: ") else {
         return Ok(text);
@@ -137,7 +137,7 @@ pub fn add_answer(
     add_content(alloc, into, rest, closes)
 }
 
-// What kind of content a text tells, and the text behind that.
+// What kind of content a text tells, and the text after that.
 fn media_type(text: &str) -> (&'static str, &str) {
     if let Some(rest) = text.strip_prefix("bytes:") {
         return (
@@ -154,7 +154,7 @@ fn media_type(text: &str) -> (&'static str, &str) {
     }
 }
 
-// Adds what stands behind the fields that an answer's code has.
+// Adds what follows the fields that an answer's code has.
 fn add_content(
     alloc: Global,
     into: &mut Vec<u8>,

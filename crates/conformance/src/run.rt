@@ -47,7 +47,7 @@ impl Cut {
         Ok(pieces)
     }
 
-    // What gives these bytes. Where a read is to fail, it is the one behind the pieces ahead.
+    // What gives these bytes. Where a read is to fail, it is the one after the pieces before.
     fn source(
         self,
         alloc: Global,
@@ -248,7 +248,7 @@ impl Outside {
 }
 
 impl Input<'_> {
-    // Puts so many connections behind those that the gates give.
+    // Puts so many connections after those that the gates give.
     fn add(
         &self,
         alloc: Global,
@@ -266,7 +266,7 @@ impl Input<'_> {
         Ok(())
     }
 
-    // Puts all connections behind those that the gates give.
+    // Puts all connections after those that the gates give.
     fn add_all(&self, alloc: Global, gates: &mut MemGates) -> Result<(), AllocError> {
         for connection in self.doors.connections {
             self.add(alloc, gates, &connection.talk, connection.count)?;

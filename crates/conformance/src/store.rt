@@ -31,7 +31,7 @@ pub fn path_in(words: &[String]) -> &'static str {
     }
 }
 
-/// The rows that are in the store ahead of a run, and which calls of shelf and keeper fail.
+/// The rows that are in the store before a run, and which calls of shelf and keeper fail.
 #[derive(Clone, Copy, Drop)]
 pub struct Store<'a> {
     pub rows: &'a [Row],
@@ -105,7 +105,7 @@ fn rows_of<K: Keeper>(alloc: Global, keeper: &mut K) -> Result<Vec<Row>, AllocEr
     Ok(rows)
 }
 
-// The rows to which what stands at the path opens.
+// The rows to which what is at the path opens.
 fn opened_rows<S: Shelf>(alloc: Global, shelf: &mut S, path: &str) -> Result<Vec<Row>, AllocError> {
     let Ok(mut keeper) = shelf.open(path) else {
         return Ok(Vec::new(alloc));
@@ -146,7 +146,7 @@ fn add_digits(into: &mut Vec<u8>, digits: &str) -> Result<(), LineError> {
     }
 }
 
-// The bytes of a row: none where there is `-`, by hexadecimal digits behind a `#`, else a text.
+// The bytes of a row: none where there is `-`, by hexadecimal digits after a `#`, else a text.
 fn bytes(alloc: Global, word: Option<&str>) -> Result<Blob, LineError> {
     let word = word.ok_or(LineError::NoForm)?;
     let mut bytes = Vec::new(alloc);

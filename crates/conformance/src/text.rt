@@ -38,14 +38,14 @@ pub fn add_text(into: &mut Vec<u8>, text: &str) -> Result<(), LineError> {
             add_escaped(into, part)?;
         }
     }
-    // The last part is plain where the text ends with an escaped `\`; behind a lone one comes none.
+    // The last part is plain where the text ends with an escaped `\`; after a lone one comes none.
     if is_plain {
         return Err(LineError::NoForm);
     }
     Ok(())
 }
 
-// Adds what the first letters of a part stand for, which a `\` stands before, and the rest as it is.
+// Adds what the first letters of a part stand for, those after a `\`, and the rest unchanged.
 fn add_escaped(into: &mut Vec<u8>, part: &str) -> Result<(), LineError> {
     let rest = if let Some(rest) = part.strip_prefix('r') {
         into.push(b'\r')?;

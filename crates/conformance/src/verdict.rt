@@ -234,7 +234,7 @@ fn moments_by(answers: &[Mark]) -> usize {
     answers.last().map_or(0, |mark| mark.moments)
 }
 
-// Where the input ends behind so many bytes. The end is clean where an answer is due there, or nothing was
+// Where the input ends after so many bytes. The end is clean where an answer is due there, or nothing was
 // sent.
 fn due_of_end(case: &Case, count: usize) -> Due<'_> {
     let answers = answered(case, count);
@@ -249,7 +249,7 @@ fn due_of_end(case: &Case, count: usize) -> Due<'_> {
     }
 }
 
-// Where the input fails behind so many bytes.
+// Where the input fails after so many bytes.
 fn due_of_read(case: &Case, count: usize) -> Due<'_> {
     let answers = answered(case, count);
     Due {
@@ -276,7 +276,7 @@ fn begun(case: &Case, count: usize) -> &[Mark] {
         .unwrap_or(case.talk.answers.as_slice())
 }
 
-// Where the output fails behind so many bytes.
+// Where the output fails after so many bytes.
 fn due_of_write(case: &Case, count: usize) -> Due<'_> {
     let begun = begun(case, count);
     Due {
@@ -289,8 +289,8 @@ fn due_of_write(case: &Case, count: usize) -> Due<'_> {
     }
 }
 
-// Where the clock fails behind so many moments: the answers that had one are whole, and nothing is judged behind them.
-// What isn't to be read then is what is sent behind the request that gets none.
+// Where the clock fails after so many moments: the answers that had one are whole, and nothing is judged after them.
+// What isn't to be read then is what is sent after the request that gets none.
 fn due_of_clock(case: &Case, count: usize) -> Due<'_> {
     let marks = case.talk.answers.as_slice();
     let answers = marks.get(..count).unwrap_or(marks);
@@ -305,7 +305,7 @@ fn due_of_clock(case: &Case, count: usize) -> Due<'_> {
     }
 }
 
-// Where the store ends behind so many rows. It is bad at the last one where that has another of its command behind it.
+// Where the store ends after so many rows. It is bad at the last one where that has another of its command after it.
 fn due_of_rows(case: &Case, count: usize) -> Due<'_> {
     match first_rows(case, count).last() {
         Some(last) if last.more == 1 => Due {
@@ -383,7 +383,7 @@ pub fn text_of(alloc: Global, bytes: &[u8]) -> Result<String, AllocError> {
     String::from_utf8_lossy(alloc, front(bytes, Some(TOLD)))
 }
 
-// What stands in a text from a place on, cut short.
+// What is in a text from a place on, cut short.
 fn told(alloc: Global, bytes: &[u8], start: usize) -> Result<String, AllocError> {
     text_of(alloc, bytes.get(start..).unwrap_or(&[]))
 }

@@ -1,4 +1,4 @@
-//! The letters that stand for reviewers.
+//! The letters that name reviewers.
 ghost use Rattle.std.specs.Prelude.{◌≡◌, ◌≤◌};
 ghost use Rattle.cr_anonymity.specs.Letters.{letter_of};
 

@@ -2,8 +2,8 @@
 //!
 //! # Proved
 //!
-//! - They are those of the defined tests: `shows_author`, `shows_reviewer`, `shows_writer`.
-//! - A label is the letter of its ordinal: `letter`.
+//! - They are those of the defined tests: `shows_author`, `shows_reviewer`, `shows_writer`. A label is the letter of
+//!   its ordinal: `letter`.
 #![tactic(auto)]
 
 mod label;

@@ -3,12 +3,8 @@
 //!
 //! # Proved
 //!
-//! With [what every table proves](../../cr_rooms/src/lib.rt):
-//!
-//! - These are exact: a paper's seats by label, with ended ones marked; labels given; a user's ordinal and papers;
-//!   invitations and externals: `Seats::seats`, `labels_drawn`, `ordinal_of`, `reviewed`, `is_invited`, `is_external`,
-//!   `inviting`.
-//! - `is_invited` takes at most the steps of a binary search in the paper's invitations: `steps`.
+//! - [What every table proves](../../cr_rooms/src/lib.rt), of seats, labels, a user's ordinal and papers, invitations
+//!   and externals.
 #![tactic(auto)]
 
 mod earlier;

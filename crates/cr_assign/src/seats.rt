@@ -111,7 +111,7 @@ fn bare(paper: PaperNo, user: UserNo) -> Tie<()>
 
 /// What is read.
 impl Seats {
-    /// Creates one without assignments and no invitations.
+    /// Creates a table without assignments or invitations.
     ///
     /// # Cost
     ///

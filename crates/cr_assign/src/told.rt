@@ -1,4 +1,4 @@
-//! Whom entries assign to which paper, and whom they invite.
+//! Which users entries assign to which paper, and which they invite.
 ghost use Rattle.std.specs.Prelude.{◌≡◌, IfOk};
 ghost use Rattle.std.specs.List.{filter_map};
 ghost use Rattle.cr_assign.specs.Room.{assigned_pair, invited_pair};

@@ -12,14 +12,8 @@ use Rattle.std.proofs.lemmas.Iterator.Adapters.{position_from-zero}
 use Rattle.cr_base.specs.Accounts.{number_at, lines_of, lines_from, with_role, chair_count, AccountsFit}
 use Rattle.cr_base.specs.Words.{is_chair}
 use Rattle.cr_base.specs.Checks.{judged, register_checks}
-use Rattle.cr_base.specs.Drawn.{Drawn, registration_drawn}
-use Rattle.cr_base.specs.Calls.{stamp_of}
-use Rattle.cr_base.specs.Judging.{judge_by, judge_by_role}
-use Rattle.cr_base.specs.Sources.{number_in, facts_of_tables, shown_in_tables}
-use Rattle.cr_base.specs.Tables.{Tables}
+use Rattle.cr_base.specs.Sources.{number_in}
 use Rattle.cr_base.proofs.ChangeLaws.{changed_at-suc}
-use Rattle.cr_base.specs.declared.command.Call.{Call}
-use Rattle.cr_base.specs.declared.command.Command.TheVariants.{Register}
 use Rattle.cr_base.specs.declared.entry.Account.{Account}
 use Rattle.cr_base.specs.declared.entry.Entry.TheVariants.{Registered}
 use Rattle.cr_base.specs.declared.reply.AccountLine.{AccountLine}
@@ -164,16 +158,3 @@ registration-fits accounts name digest user h =
         let same : user ≡ count + 1 = cc in
         let few : count < 9999 = grind (arith, nat_tests) in
         (same, omega arith, refl)
-
--- ---- registrations
-
--- a registration is judged by the users of names and the number of accounts
-pub judge_by_role-register : (t : Tables) (call : Call) (name digest : List ℕ) → call.command ≡ Register name digest
-    → judge_by_role t call ≡ judged (register_checks (is_some (number_at t.accounts name)) (length t.accounts))
-    (registration_drawn (stamp_of call) (length t.accounts + 1) name digest)
-judge_by_role-register t call name digest is =
-    let by : Option ℕ → ℕ → Result Drawn Rule = λ found count. judged (register_checks (is_some found) count)
-    (registration_drawn (stamp_of call) (count + 1) name digest) in
-    ap (judge_by (facts_of_tables t call.caller) (shown_in_tables t) (stamp_of call)) is ∙
-    ap (λ found. by found (length (lines_of t.accounts))) (number_in-lines_of t.accounts name)
-    ∙ ap (by (number_at t.accounts name)) (length-lines_of t.accounts)

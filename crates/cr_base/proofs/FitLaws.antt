@@ -1,33 +1,35 @@
 -- The entries that a command draws fit the tables, each in its turn.
 use Rattle.std.proofs.Common.{ℕ, Bool, true, false, cond, ◌≡◌, ◌≤◌, ◌<◌, ◌+◌, ◌==◌, List, [], ◌∷◌, length}
-use Rattle.std.proofs.Common.{length-append, refl, sym, ap, subst, ◌∙◌, arith, Option, Some, None, is_some, Ok}
+use Rattle.std.proofs.Common.{length-append, refl, sym, ap, subst, ◌∙◌, arith, Option, Some, None, is_some, Result, Ok}
 use Rattle.std.specs.Prelude.{is_none, unwrap_or, not, nat_le, nat_lt, ◌||◌, ◌&&◌, map}
-use Rattle.std.specs.List.{flat_map, list_any}
+use Rattle.std.specs.List.{flat_map, list_any, list_all, AllByRecursion}
 use Rattle.std.specs.Option.{option_map}
-use Rattle.std.proofs.lemmas.Bool.{leb-false, true≢false, not-false}
+use Rattle.std.proofs.lemmas.Bool.{and_parts, leb-false, true≢false, not-false}
 use Rattle.std.proofs.lemmas.Bool.Decides.{nat_tests}
 use Rattle.std.proofs.lemmas.List.{append-nil, length-map}
 use Rattle.cr_base.specs.History.{FormTold}
-use Rattle.cr_base.specs.declared.command.Command.{Command}
-use Rattle.cr_base.specs.declared.command.Command.TheVariants.{Register, SetPhase, Submit, Revise, Upload, Withdraw}
-use Rattle.cr_base.specs.declared.command.Command.TheVariants.{Name, SetMode, SetConflict, Bid, Assign, Unassign}
-use Rattle.cr_base.specs.declared.command.Command.TheVariants.{Review, Comment, Tag, Decide, SetDeadline, Dismiss}
-use Rattle.cr_base.specs.declared.command.Command.TheVariants.{Invite, Uninvite, Respond}
+use Rattle.cr_base.specs.declared.resolved.ResolvedCommand.{ResolvedCommand}
+use Rattle.cr_base.specs.declared.resolved.ResolvedCommand.TheVariants.{Register, SetPhase, Submit, Revise, Upload, Withdraw}
+use Rattle.cr_base.specs.declared.resolved.ResolvedCommand.TheVariants.{Name, SetMode, SetConflict, Bid, Assign, Unassign}
+use Rattle.cr_base.specs.declared.resolved.ResolvedCommand.TheVariants.{Review, Comment, Tag, Decide, SetDeadline, Dismiss}
+use Rattle.cr_base.specs.declared.resolved.ResolvedCommand.TheVariants.{Invite, Uninvite, Respond}
 use Rattle.cr_base.specs.declared.entry.Account.{Account}
 use Rattle.cr_base.specs.declared.entry.Entry.TheVariants.{Registered, Named}
 use Rattle.cr_base.specs.declared.entry.Stamp.{Stamp}
+use Rattle.cr_base.specs.declared.reply.AccountLine.{AccountLine}
+use Rattle.cr_base.specs.declared.reply.Rule.{Rule}
 use Rattle.cr_base.specs.declared.target.Target.{Target}
 use Rattle.cr_base.specs.declared.words.Role.{Role}
 use Rattle.cr_base.specs.declared.words.Role.TheVariants as roles
 use Rattle.cr_base.specs.Accounts.{number_at, lines_of}
-use Rattle.cr_base.specs.Calls.{call_by, maker_of}
-use Rattle.cr_base.specs.Checks.{NamedPaper, of_role, register_checks, target_is}
-use Rattle.cr_base.specs.Deeds.{Deed, deed_at, drawn_by}
-use Rattle.cr_base.specs.Drawn.{Drawn, grouped, registration, registration_drawn}
+use Rattle.cr_base.specs.Calls.{maker_of}
+use Rattle.cr_base.specs.Checks.{NamedPaper, judged, of_role, register_checks, target_is}
+use Rattle.cr_base.specs.Deeds.{Deed, deed_at, drawn_by, is_missing}
+use Rattle.cr_base.specs.Drawn.{Drawn, grouped, registration}
 use Rattle.cr_base.specs.Invites.{is_invited_in}
-use Rattle.cr_base.specs.Judging.{judge_by_role}
-use Rattle.cr_base.specs.Sources.{Facts, own_forms_in, standing_at, facts_of_tables, shown_in_tables, user_among}
-use Rattle.cr_base.specs.Sources.{users_among, role_among, has_paper, paper_named, target_named}
+use Rattle.cr_base.specs.Judging.{judge_resolved}
+use Rattle.cr_base.specs.Sources.{Facts, own_forms_in, standing_at, facts_of_tables, shown_in_tables, is_there}
+use Rattle.cr_base.specs.Sources.{number_in, role_among, has_paper, paper_named, target_named}
 use Rattle.cr_base.specs.Papers.{paper_count, paper_numbers, own_count, own_bytes}
 use Rattle.cr_base.specs.Lists.{listed, is_number}
 use Rattle.cr_base.specs.Pairs.{users_tied_to}
@@ -38,9 +40,9 @@ use Rattle.cr_base.specs.Talk.{comments_in, comment_as_told, own_comments_in, re
 use Rattle.cr_base.specs.Tables.{Tables, FitInTurn}
 use Rattle.cr_base.specs.Ties.{authors_in, AreWithin}
 use Rattle.cr_base.specs.Words.{is_member}
-use Rattle.cr_base.proofs.AccountLaws.{judge_by_role-register, registration-fits}
+use Rattle.cr_base.proofs.AccountLaws.{registration-fits, number_in-lines_of, length-lines_of}
 use Rattle.cr_base.proofs.CheckLaws.{NoneBroken, judged-Ok, judged-none}
-use Rattle.cr_base.proofs.CoauthorLaws.{users-within, submission-fits}
+use Rattle.cr_base.proofs.CoauthorLaws.{HasAccount, submission-fits}
 use Rattle.cr_base.proofs.ListLaws.{length-numbers_from, role_among-lines_of}
 use Rattle.cr_base.proofs.TargetLaws.{is_none-asked, target_within, paper_within}
 use Rattle.cr_base.proofs.TieLaws.{within-before}
@@ -53,7 +55,7 @@ registration-in_turn t stamp user name digest fits = by (user == 1)
   where
     by : (first : Bool)
         → FitInTurn t (grouped (record stamp { maker = user })
-        (cond first (Registered user name digest ∷ Named user roles.Chair ∷ []) (Registered user name digest ∷ [])))
+        (Registered user name digest ∷ cond first (Named user roles.Chair ∷ []) []))
     by true =
         let added : Account = record { name = name; digest = digest; role = roles.Account } in
         let n = length-append t.accounts (added ∷ []) in (
@@ -78,6 +80,26 @@ target-in : (t : Tables) (target : Option ℕ) (asked : Role → Target)
     → (1 ≤ unwrap_or target 0) × (unwrap_or target 0 ≤ length t.accounts)
 target-in t target asked h = target_within t.accounts target (sym (ap is_none (role_among-lines_of t.accounts target))
     ∙ sym (is_none-asked asked (role_among (lines_of t.accounts) target)) ∙ h)
+
+-- co-authors who are there have accounts
+all-within : (t : Tables) (users : List ℕ) → list_all (is_there (lines_of t.accounts)) users ≡ true
+    → AllByRecursion (HasAccount t.accounts) users
+all-within t [] all = tt
+all-within t (u ∷ users) all =
+    let both = and_parts (is_there (lines_of t.accounts) u) (list_all (is_there (lines_of t.accounts)) users) all in (
+      target-in t (Some u) of_role (there-asked (role_among (lines_of t.accounts) (Some u)) both.0),
+      all-within t users both.1,
+    )
+  where
+    there-asked : (role : Option Role) → is_some role ≡ true → is_none (option_map of_role role) ≡ false
+    there-asked None h = absurd (true≢false (sym h))
+    there-asked (Some role) h = refl
+
+coauthors-within : (t : Tables) (authors : Option (List ℕ)) → is_missing (lines_of t.accounts) authors ≡ false
+    → AllByRecursion (HasAccount t.accounts) (unwrap_or authors [])
+coauthors-within t None h = absurd (true≢false h)
+coauthors-within t (Some users) h =
+    all-within t users (not-false (list_all (is_there (lines_of t.accounts)) users) h)
 
 -- ---- the seat of the user named
 
@@ -157,39 +179,34 @@ module _ (t : Tables) (within : AreWithin (paper_count t.papers) t.ties) (stamp 
   abbrev late : Bool
   late = is_late_in t.stage stamp.at
 
-  -- what a new user's registration draws fits
-  registered-fits : (name digest : List ℕ) (drawn : Drawn)
-      → judge_by_role t (call_by stamp (Register name digest)) ≡ Ok drawn → FitInTurn t drawn.group
-  registered-fits name digest drawn accepted =
-      let n : ℕ = length t.accounts in
-      let checks = register_checks (is_some (number_at t.accounts name)) n in
-      let k = judged-Ok checks (registration_drawn stamp (n + 1) name digest) drawn
-      (sym (judge_by_role-register t (call_by stamp (Register name digest)) name digest refl) ∙ accepted) in
-      subst (λ (d : Drawn). FitInTurn t d.group) k.1
-      (registration-in_turn t stamp (n + 1) name digest
-      (registration-fits t.accounts name digest (n + 1) (sym (judged-none checks (n + 1) k.0))))
-
-  abbrev deed_of : Command → Deed
+  abbrev deed_of : ResolvedCommand → Deed
   deed_of command = deed_at (facts_of_tables t (Some maker)) (shown_in_tables t) stamp command
 
   -- what a deed of which no rule is broken draws fits
-  deed-fits : (command : Command) → NoneBroken (deed_of command).checks
-      → FitInTurn t (drawn_by stamp (deed_of command)).group
+  deed-fits : (command : ResolvedCommand) → NoneBroken (deed_of command).checks
+      → FitInTurn t (drawn_by (lines_of t.accounts) stamp (deed_of command)).group
   deed-fits (Register name digest) none =
-      registered-fits name digest (drawn_by stamp (deed_of (Register name digest)))
-      (judged-none (deed_of (Register name digest)).checks (drawn_by stamp (deed_of (Register name digest))) none)
+      let lines : List AccountLine = lines_of t.accounts in
+      let checks = register_checks (is_some (number_in lines name)) (length lines) in
+      registration-in_turn t stamp (length lines + 1) name digest
+      (registration-fits t.accounts name digest (length lines + 1)
+      (sym (judged-none checks (length lines + 1) none)
+      ∙ ap (λ (found : Option ℕ). told found (length lines)) (number_in-lines_of t.accounts name)
+      ∙ ap (told (number_at t.accounts name)) (length-lines_of t.accounts)))
+    where
+      told : Option ℕ → ℕ → Result ℕ Rule
+      told found count = judged (register_checks (is_some found) count) (count + 1)
   deed-fits (SetPhase to) none =
       (record { accounts = tt; papers = tt; ties = tt; seats = tt; reviews = tt; talk = tt }, tt)
   deed-fits (Submit title abstract authors) none =
       let n : ℕ = length (paper_numbers t.papers) in
-      let users : List (Option ℕ) = users_among (lines_of t.accounts) authors in
       let same : n ≡ paper_count t.papers = length-numbers_from 1 t.papers.papers in
       let few : n < 9999 = leb-false 9999 n none.1.1.1.0 in
       let own : own_count t.papers (Some maker) < 20 = leb-false 20 (own_count t.papers (Some maker)) none.1.1.1.1.0 in
-      submission-fits t stamp (n + 1) title abstract (flat_map listed users)
+      submission-fits t stamp (n + 1) title abstract (unwrap_or authors [])
       (omega (arith, same), omega (arith, few), own)
       (within-before (paper_count t.papers) (n + 1) (ap (λ m. m + 1) same) t.ties.authors within.authors)
-      (users-within t.accounts authors)
+      (coauthors-within t authors none.0)
   deed-fits (Revise paper title abstract) none = (
     record {
       accounts = tt;
@@ -232,23 +249,21 @@ module _ (t : Tables) (within : AreWithin (paper_count t.papers) t.ties) (stamp 
     },
     tt,
   )
-  deed-fits (Name name role) none =
-      let target : Option ℕ = user_among (lines_of t.accounts) name in (
-        record {
-          accounts = target-in t target of_role none.0;
-          papers = tt;
-          ties = tt;
-          seats = tt;
-          reviews = tt;
-          talk = tt;
-        },
-        tt,
-      )
+  deed-fits (Name target role) none = (
+    record {
+      accounts = target-in t target of_role none.0;
+      papers = tt;
+      ties = tt;
+      seats = tt;
+      reviews = tt;
+      talk = tt;
+    },
+    tt,
+  )
   deed-fits (SetMode to) none =
       (record { accounts = tt; papers = tt; ties = tt; seats = tt; reviews = tt; talk = tt }, tt)
-  deed-fits (SetConflict paper name on) none =
+  deed-fits (SetConflict paper target on) none =
       let facts : Facts = facts_of_tables t (Some maker) in
-      let target : Option ℕ = user_among (lines_of t.accounts) name in
       let there = paper_within t.papers.papers paper none.0 in (
         record {
           accounts = target-in t target _ none.1.0;
@@ -271,8 +286,7 @@ module _ (t : Tables) (within : AreWithin (paper_count t.papers) t.ties) (stamp 
     },
     tt,
   )
-  deed-fits (Assign paper name kind) none =
-      let target : Option ℕ = user_among (lines_of t.accounts) name in
+  deed-fits (Assign paper target kind) none =
       let p : ℕ = unwrap_or paper 0 in
       let labels : ℕ = labels_in t.seats p in
       let there = paper_within t.papers.papers paper none.0 in
@@ -292,8 +306,7 @@ module _ (t : Tables) (within : AreWithin (paper_count t.papers) t.ties) (stamp 
     where
       few : (n : ℕ) → nat_le 26 n ≡ false → n + 1 ≤ 26
       few n h = grind (arith, nat_tests, h)
-  deed-fits (Unassign paper name) none =
-      let target : Option ℕ = user_among (lines_of t.accounts) name in
+  deed-fits (Unassign paper target) none =
       let p : ℕ = unwrap_or paper 0 in
       let there = paper_within t.papers.papers paper none.0 in
       let user = target-in t target _ none.1.0 in
@@ -332,20 +345,18 @@ module _ (t : Tables) (within : AreWithin (paper_count t.papers) t.ties) (stamp 
       (record { accounts = tt; papers = there; ties = tt; seats = tt; reviews = tt; talk = tt }, tt)
   deed-fits (SetDeadline phase until) none =
       (record { accounts = tt; papers = tt; ties = tt; seats = tt; reviews = tt; talk = tt }, tt)
-  deed-fits (Dismiss name) none =
-      let target : Option ℕ = user_among (lines_of t.accounts) name in (
-        record {
-          accounts = target-in t target of_role none.0;
-          papers = tt;
-          ties = tt;
-          seats = tt;
-          reviews = tt;
-          talk = tt;
-        },
-        tt,
-      )
-  deed-fits (Invite paper name) none =
-      let target : Option ℕ = user_among (lines_of t.accounts) name in
+  deed-fits (Dismiss target) none = (
+    record {
+      accounts = target-in t target of_role none.0;
+      papers = tt;
+      ties = tt;
+      seats = tt;
+      reviews = tt;
+      talk = tt;
+    },
+    tt,
+  )
+  deed-fits (Invite paper target) none =
       let there = paper_within t.papers.papers paper none.0 in (
         record {
           accounts = target-in t target _ none.1.0;
@@ -357,8 +368,7 @@ module _ (t : Tables) (within : AreWithin (paper_count t.papers) t.ties) (stamp 
         },
         tt,
       )
-  deed-fits (Uninvite paper name) none =
-      let target : Option ℕ = user_among (lines_of t.accounts) name in
+  deed-fits (Uninvite paper target) none =
       let there = paper_within t.papers.papers paper none.0 in (
         record {
           accounts = target-in t target _ none.1.0;
@@ -384,9 +394,11 @@ module _ (t : Tables) (within : AreWithin (paper_count t.papers) t.ties) (stamp 
         tt,
       )
 
-  -- what a user's command draws fits; a registration's is the same for all
-  pub judged-fits : (command : Command) (drawn : Drawn) → judge_by_role t (call_by stamp command) ≡ Ok drawn
+  -- what a resolved command draws fits; a registration's is the same for all
+  pub resolved-fits : (command : ResolvedCommand) (drawn : Drawn)
+      → judge_resolved (facts_of_tables t (Some maker)) (shown_in_tables t) stamp command ≡ Ok drawn
       → FitInTurn t drawn.group
-  judged-fits command drawn accepted =
-      let k = judged-Ok (deed_of command).checks (drawn_by stamp (deed_of command)) drawn accepted in
+  resolved-fits command drawn accepted =
+      let k = judged-Ok (deed_of command).checks (drawn_by (lines_of t.accounts) stamp (deed_of command)) drawn
+      accepted in
       subst (λ (d : Drawn). FitInTurn t d.group) k.1 (deed-fits command k.0)

@@ -1,4 +1,5 @@
 pub mod AccountLaws
+pub mod ByNames
 pub mod ChangeLaws
 pub mod CheckLaws
 pub mod CoauthorLaws
@@ -11,6 +12,7 @@ pub mod NameLaws
 pub mod PairLaws
 pub mod PaperLaws
 pub mod PartLaws
+pub mod ResolvingLaws
 pub mod RisingLists
 pub mod RoleLaws
 pub mod RowCommandLaws

@@ -14,9 +14,14 @@ use Rattle.cr_base.specs.declared.entry.Entry.{Entry}
 use Rattle.cr_base.specs.declared.entry.Entry.TheVariants.{Conflict, Assigned, Unassigned, Tagged}
 use Rattle.cr_base.specs.declared.entry.Stamp.{Stamp}
 use Rattle.cr_base.specs.declared.entry.Stamped.{Stamped}
+use Rattle.cr_base.specs.declared.reply.AccountLine.{AccountLine}
 use Rattle.cr_base.specs.declared.reply.Receipt.TheVariants as receipts
 use Rattle.cr_base.specs.declared.reply.Rule.{Rule}
 use Rattle.cr_base.specs.declared.reply.Rule.TheVariants as rules
+use Rattle.cr_base.specs.declared.resolved.ResolvedCommand.{ResolvedCommand}
+use Rattle.cr_base.specs.declared.resolved.ResolvedCommand.TheVariants as resolved
+use Rattle.cr_base.specs.declared.resolved.ResolvedRow.{ResolvedRow}
+use Rattle.cr_base.specs.declared.resolved.ResolvedRow.TheVariants as by_number
 use Rattle.cr_base.specs.declared.standing.Standing.{Standing}
 use Rattle.cr_base.specs.declared.words.Kind.{Kind}
 use Rattle.cr_base.specs.declared.words.Kind.TheVariants.{Primary, Secondary, Pc}
@@ -24,8 +29,9 @@ use Rattle.cr_base.specs.Calls.{BulkCall}
 use Rattle.cr_base.specs.Checks.{Check, ◌breaks◌, judged}
 use Rattle.cr_base.specs.Drawn.{Drawn, grouped}
 use Rattle.cr_base.specs.History.{History}
-use Rattle.cr_base.specs.Judging.{judge_by}
+use Rattle.cr_base.specs.Judging.{judge_resolved}
 use Rattle.cr_base.specs.Lists.{is_number}
+use Rattle.cr_base.specs.Resolving.{resolve}
 use Rattle.cr_base.specs.Sources.{Facts, Shown, user_among, facts_of_tables, shown_in_tables}
 use Rattle.cr_base.specs.Parse.{parse_paper, parse_name}
 use Rattle.cr_base.specs.Phases.{committee_works}
@@ -78,6 +84,20 @@ command_of_row (of_row.Assign paper name kind) = commands.Assign paper name kind
 command_of_row (of_row.Unassign paper name) = commands.Unassign paper name
 command_of_row (of_row.Tag paper tag on) = commands.Tag paper tag on
 
+-- the resolved command of a row whose user is told by number
+abbrev pub resolved_of_row : ResolvedRow → ResolvedCommand
+resolved_of_row (by_number.Conflict paper user on) = resolved.SetConflict paper user on
+resolved_of_row (by_number.Assign paper user kind) = resolved.Assign paper user kind
+resolved_of_row (by_number.Unassign paper user) = resolved.Unassign paper user
+resolved_of_row (by_number.Tag paper tag on) = resolved.Tag paper tag on
+
+-- a row's command with whom it names looked up among the accounts
+abbrev pub resolve_row : List AccountLine → RowCommand → ResolvedRow
+resolve_row accounts (of_row.Conflict paper name on) = by_number.Conflict paper (user_among accounts name) on
+resolve_row accounts (of_row.Assign paper name kind) = by_number.Assign paper (user_among accounts name) kind
+resolve_row accounts (of_row.Unassign paper name) = by_number.Unassign paper (user_among accounts name)
+resolve_row accounts (of_row.Tag paper tag on) = by_number.Tag paper tag on
+
 -- the command is one that a row may tell
 abbrev pub IsRowCommand : Command → Type 0
 IsRowCommand (commands.SetConflict paper name on) = Unit {0}
@@ -98,14 +118,18 @@ IsRowEntry entry = ⊥
 
 -- the command turns a conflict of the caller's own on or off, which a bulk may not: so no row changes with which
 -- papers its bulk's caller is in conflict
-abbrev pub turns_own_conflict : Facts → ℕ → Command → Bool
-turns_own_conflict facts user (commands.SetConflict paper name on) = is_number (user_among facts.accounts name) user
-turns_own_conflict facts user _ = false
+abbrev pub turns_own_conflict : ℕ → ResolvedCommand → Bool
+turns_own_conflict user (resolved.SetConflict paper target on) = is_number target user
+turns_own_conflict user _ = false
 
--- what the command of a row draws, under the stamp of its bulk
+-- what the resolved command of a row draws, under the stamp of its bulk
+abbrev pub row_resolved_by : Facts → Shown → Stamp → ResolvedCommand → Result Drawn Rule
+row_resolved_by facts shown stamp command =
+    if turns_own_conflict stamp.maker command then Err rules.BulkSelf else judge_resolved facts shown stamp command
+
+-- what a row's command draws: what its resolution does
 abbrev pub row_judged_by : Facts → Shown → Stamp → Command → Result Drawn Rule
-row_judged_by facts shown stamp command =
-    if turns_own_conflict facts stamp.maker command then Err rules.BulkSelf else judge_by facts shown stamp command
+row_judged_by facts shown stamp command = row_resolved_by facts shown stamp (resolve facts.accounts command)
 
 abbrev pub row_told_judged : Facts → Shown → Stamp → Result Command Rule → Result Drawn Rule
 row_told_judged facts shown stamp (Err rule) = Err rule

@@ -5,6 +5,8 @@ use Rattle.cr_base.specs.declared.bulk.BulkRow.{BulkRow}
 use Rattle.cr_base.specs.declared.command.Call.{Call}
 use Rattle.cr_base.specs.declared.command.Command.{Command}
 use Rattle.cr_base.specs.declared.entry.Stamp.{Stamp}
+use Rattle.cr_base.specs.declared.resolved.ResolvedCall.{ResolvedCall}
+use Rattle.cr_base.specs.declared.resolved.ResolvedCommand.{ResolvedCommand}
 use Rattle.cr_base.specs.declared.retry.RetryKey.{RetryKey}
 
 -- the stamp of what a user's request at that moment adds, by the key of its command, if any
@@ -26,6 +28,10 @@ call_of caller at key command = record { caller = caller; at = at; key = key; co
 -- the command of the user whose stamp this is
 abbrev pub call_by : Stamp → Command → Call
 call_by stamp command = call_of (Some stamp.maker) stamp.at stamp.key command
+
+-- the resolved command that the stamp's user gives, as a call
+abbrev pub resolved_by : Stamp → ResolvedCommand → ResolvedCall
+resolved_by stamp command = record { caller = Some stamp.maker; at = stamp.at; key = stamp.key; command = command }
 
 -- the rows of a bulk, and the stamp of the user who gives it
 pub record BulkCall : Type 0 where

@@ -25,6 +25,7 @@ pub mod Papers
 pub mod Phases
 pub mod Plans
 pub mod Reports
+pub mod Resolving
 pub mod Retries
 pub mod Reviews
 pub mod Rows

@@ -1,10 +1,8 @@
 -- Retries: what a command comes to that has a number: where its caller had one of the same number accepted, it isn't
 -- judged again (in the manner of the Idempotency-Key field of the IETF's HTTPAPI working group).
-use Rattle.std.specs.Prelude.{ℕ, Bool, List, [], ◌∷◌, length, Option, Some, None, if◌then◌else◌, unwrap_or}
+use Rattle.std.specs.Prelude.{ℕ, Bool, List, [], ◌∷◌, length, Option, Some, None, if◌then◌else◌}
 use Rattle.std.specs.Prelude.{Result, Ok, Err}
 use Rattle.std.specs.Str.{bytes_eq}
-use Rattle.cr_base.specs.declared.entry.Entry.{Entry}
-use Rattle.cr_base.specs.declared.entry.Entry.TheVariants.{Named, Dismissed}
 use Rattle.cr_base.specs.declared.reply.AccountLine.{AccountLine}
 use Rattle.cr_base.specs.declared.reply.Receipt.{Receipt}
 use Rattle.cr_base.specs.declared.reply.Receipt.TheVariants as receipts
@@ -14,7 +12,7 @@ use Rattle.cr_base.specs.History.{History}
 use Rattle.cr_base.specs.HistoryFacts.{accounts_of}
 use Rattle.cr_base.specs.Keys.{kept_under}
 use Rattle.cr_base.specs.Rows.{key_mark}
-use Rattle.cr_base.specs.Sources.{name_in}
+use Rattle.cr_base.specs.Sources.{name_told_by}
 
 -- ---- what is kept of a number
 
@@ -24,12 +22,6 @@ pub record KeptCall : Type 0 where
   pub mark : List ℕ
   pub receipt : Receipt
   pub entries : ℕ
-
--- the name that the receipt of an entry tells: of the user who is given a role, or loses it
-abbrev pub name_told_by : List AccountLine → Entry → List ℕ
-name_told_by accounts (Named user role) = unwrap_or (name_in accounts user) []
-name_told_by accounts (Dismissed user) = unwrap_or (name_in accounts user) []
-name_told_by accounts _ = []
 
 -- what these entries of one command tell, with the accounts as they are now
 abbrev pub kept_call : List AccountLine → History → Option KeptCall

@@ -1,10 +1,12 @@
 -- What rules and answers read, over a record of facts and one of what is shown of a paper: filled by a view they make
 -- `judge` and `answer` of cr_policy, filled by the tables they make `judge_by_role` and `answer_by_role`.
 use Rattle.std.specs.Prelude.{ℕ, Bool, not, ◌||◌, ◌&&◌, ◌==◌, List, Option, Some, None, is_some, find, map}
-use Rattle.std.specs.Prelude.{if◌then◌else◌}
+use Rattle.std.specs.Prelude.{[], if◌then◌else◌, unwrap_or}
 use Rattle.std.specs.Option.{option_map, option_and_then}
 use Rattle.std.specs.List.{flat_map, list_any}
 use Rattle.std.specs.Str.{bytes_eq}
+use Rattle.cr_base.specs.declared.entry.Entry.{Entry}
+use Rattle.cr_base.specs.declared.entry.Entry.TheVariants.{Named, Dismissed}
 use Rattle.cr_base.specs.declared.reply.AccountLine.{AccountLine}
 use Rattle.cr_base.specs.declared.standing.Standing.{Standing}
 use Rattle.cr_base.specs.declared.target.Target.{Target}
@@ -155,6 +157,12 @@ number_in accounts name = option_map (λ a. a.user) (find (λ a. bytes_eq a.name
 abbrev pub name_in : List AccountLine → ℕ → Option (List ℕ)
 name_in accounts user = option_map (λ a. a.name) (find (λ a. a.user == user) accounts)
 
+-- the name that the receipt of an entry tells: of the user who is given a role, or loses it
+abbrev pub name_told_by : List AccountLine → Entry → List ℕ
+name_told_by accounts (Named user role) = unwrap_or (name_in accounts user) []
+name_told_by accounts (Dismissed user) = unwrap_or (name_in accounts user) []
+name_told_by accounts _ = []
+
 -- the user of a name that may be none, and the role of a user who may be nobody
 abbrev pub user_among : List AccountLine → Option (List ℕ) → Option ℕ
 user_among accounts name = option_and_then (number_in accounts) name
@@ -165,6 +173,10 @@ users_among accounts names = map (user_among accounts) names
 
 abbrev pub role_among : List AccountLine → Option ℕ → Option Role
 role_among accounts user = option_and_then (λ v. option_map (λ a. a.role) (find (λ a. a.user == v) accounts)) user
+
+-- the user is there: she has registered
+abbrev pub is_there : List AccountLine → ℕ → Bool
+is_there accounts user = is_some (role_among accounts (Some user))
 
 -- the names of these users
 abbrev pub names_in : List AccountLine → List ℕ → List (List ℕ)

@@ -90,8 +90,8 @@ pub enum Ask {
 }
 
 impl Ask {
-    /// Returns whether the request requires authentication: every command except a registration, a bulk, a paper's
-    /// page, content, reviews, response and comments, searches, reports, plans, and what the caller is to the
+    /// Returns whether the request requires authentication: every command except a registration; a bulk; a paper's
+    /// page, content, reviews, response and comments; searches, reports and plans; and what the caller is to the
     /// conference. Page and content of a published paper require none, which only the history tells.
     pub fn wants_login(self) -> bool
         ensures { result ≡ ask_wants_login self }

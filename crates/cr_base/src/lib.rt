@@ -3,29 +3,20 @@
 //!
 //! # Proved
 //!
-//! - A row of an older store is brought to the current version: `migrate_row`.
-//! - A name is tested exactly by its grammar: `is_name` (`name`, `test`).
-//! - Phases, modes, roles and decisions print as their words: `name`, `value`.
+//! - A row is read as the entry within bounds that has this row, and refused if there is none, unless memory runs out:
+//!   `Stamped::from_row` (`spells`, `every`). An entry is written as its row: `Entry::to_row`. A row of an older store
+//!   is brought to the current version: `migrate_row`.
 //! - A `UserNo` and a `PaperNo` are 1 to 9,999, a `Moment` 0 to 253,402,300,799, a `Deadline` 1 to 253,402,207,200:
-//!   the types.
+//!   the types. Names, digits and words are exact: `is_name` (`name`, `test`), `all_digits`, `decimal_value`, `name`.
 //! - Each command and query says what it asks for, and by that whether authentication is required and credentials are
 //!   read: `Command::ask`, `Query::ask`, `wants_login`, `Ask::reads_credentials`.
-//! - Co-authors in a fixed array are the list of those pushed: `Coauthors::push`.
-//! - Decimal digits are read as their number: `decimal_value`.
 //! - Reading a record in a `Kept` takes one step; a caller sees as many steps as are ticked: `get` (`steps`),
 //!   `Steps::ticks`.
 //!
-//! Unless memory runs out:
-//!
-//! - A row is read as the entry within bounds that has this row. It is refused if there is none: `Stamped::from_row`
-//!   (`spells`, `every`).
-//! - An entry is written as its row: `Entry::to_row`.
-//! - Copies are equal: `copy` of `Blob`, `Text`, `Row`, `Entry`, `Stamped`.
-//!
 //! # Assumed
 //!
-//! - Copies share their bytes, by the crate `bytes`.
-//! - The definitions say what is meant. Counted code reads nothing uncounted.
+//! - Copies share their bytes, by the crate `bytes`. The definitions say what is meant. Counted code reads nothing
+//!   uncounted.
 #![tactic(auto)]
 
 mod accepted;
@@ -54,6 +45,7 @@ mod phases;
 mod plan;
 mod reply;
 mod report;
+mod resolved;
 mod retry;
 mod review;
 mod row;
@@ -137,6 +129,9 @@ pub use reply::Receipt;
 pub use reply::Reply;
 pub use reply::Rule;
 pub use report::Report;
+pub use resolved::ResolvedCall;
+pub use resolved::ResolvedCommand;
+pub use resolved::ResolvedRow;
 pub use retry::CommandNumber;
 pub use retry::LAST_COMMAND_NUMBER;
 pub use retry::RetryKey;

@@ -110,7 +110,7 @@ impl Search {
         Search { steps }
     }
 
-    /// Returns its steps, none of the empty search.
+    /// Returns its steps; the empty search has none.
     pub fn steps(&self) -> &[Step]
         ensures value { result.now ≡ self.now }
         ensures spelled { IsSpelled result.now }

@@ -45,7 +45,7 @@ pub enum Mode {
 pub enum Kind {
     /// Answers first for the paper's reviews.
     Primary,
-    /// Does if the primary reviewer can't.
+    /// Reviews the paper if the primary reviewer can't.
     Secondary,
     /// Reviews the paper as a member of the programme committee.
     Pc,

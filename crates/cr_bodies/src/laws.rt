@@ -1,4 +1,4 @@
-//! Laws over the definitions alone.
+//! Theorems over the definitions.
 ghost use Rattle.std.specs.Prelude.{◌≡◌, Some, None, codes};
 ghost use Rattle.cr_bodies.specs.Until.{deadline_in_text};
 

@@ -1,14 +1,12 @@
-//! What a request tells besides its path and method: a JSON body, credentials, and its digest.
+//! What a request tells besides its path and method: a JSON body, credentials, and its digest. What JSON, SHA-256 and
+//! timestamps are, `serde_json`, `sha2` and `jiff` define.
 //!
 //! # Proved
 //!
 //! - Unless memory runs out, a command is read exactly if the body is an object with the members that its request must
-//!   have, by one table of keys and kinds. It is within the bounds on commands: `read_command` (`told`, `bounded`).
-//! - Eight deadlines are written out: `law_deadlines_read`.
-//! - Credentials are read exactly by their grammar: `read_credentials`.
-//! - A request's digest is that of its method, path and body: `mark_of`.
-//!
-//! What JSON, SHA-256 and timestamps are, `serde_json`, `sha2` and `jiff` define.
+//!   have: `read_command` (`told`, `bounded`). Eight deadlines are written out: `law_deadlines_read`.
+//! - Credentials are read exactly by their grammar: `read_credentials`. A request's digest is that of its method, path
+//!   and body: `mark_of`.
 //!
 //! # Assumed
 //!

@@ -17,8 +17,8 @@ use Rattle.cr_policy.specs.Judge.{judge, view_basis}
 use Rattle.cr_policy.specs.Legal.{IsAllowed, IsNewKey, Legal}
 use Rattle.cr_policy.specs.View.{view}
 use Rattle.cr_policy.proofs.NumberLaws.{accepted-group, accepted-new}
-use Rattle.cr_book.proofs.OpeningBulks.{bulk-parts}
-use Rattle.cr_book.proofs.OpeningLegal.{MayAdd, MayAddRows, MayMove}
+use Rattle.cr_beginnings.proofs.BulkParts.{bulk-parts}
+use Rattle.cr_beginnings.proofs.GroupLegal.{MayAdd, MayAddRows, MayMove}
 
 -- ---- a group under one stamp
 
@@ -26,12 +26,6 @@ unused-number : (H : History) (user : ℕ) (key : Option RetryKey) → IsNewKey 
     → IfSome (option_map (number_by user) key) (λ n. IsUnused H n.user n.number)
 unused-number H user None new = tt
 unused-number H user (Some key) new = new
-
-unused-key : (H : History) (user : ℕ) (key : Option RetryKey)
-    → IfSome (option_map (number_by user) key) (λ n. IsUnused H n.user n.number)
-    → IsNewKey H (Some user) key
-unused-key H user None new = tt
-unused-key H user (Some key) new = new
 
 grouped-under : (stamp : Stamp) (entries : List Entry)
     → AllByRecursion (λ (s : Stamped). s.stamp ≡ stamp) (grouped stamp entries)
@@ -68,11 +62,7 @@ rows-follow H group add =
     subst (λ (g : History). MayFollow H g) (ap (λ (d : Drawn). d.group) parts.drawn_is ∙ sym add.group_is)
     (grouped-follow H bulk.stamp parts.entries add.allowed.unused)
 
--- so the first entry of what goes on a history has a new number
-pub move-new : (H : History) (first : Stamped) (rest : History) → Legal H → MayMove H (first ∷ rest)
-    → IsNewKey H (Some first.stamp.maker) first.stamp.key
-move-new H first rest legal move = unused-key H first.stamp.maker first.stamp.key (by move).new
-  where
-    by : MayMove H (first ∷ rest) → MayFollow H (first ∷ rest)
-    by (inl add) = added-follows H (first ∷ rest) legal add
-    by (inr rows) = rows-follow H (first ∷ rest) rows
+-- and a move's
+pub move-follows : (H group : History) → Legal H → MayMove H group → MayFollow H group
+move-follows H group legal (inl add) = added-follows H group legal add
+move-follows H group legal (inr rows) = rows-follow H group rows

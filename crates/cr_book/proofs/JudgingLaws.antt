@@ -1,26 +1,43 @@
 -- The rows of a bulk, judged one behind another.
 use Rattle.std.proofs.Common.{ℕ, Bool, true, false, ◌≡◌, ◌<◌, ◌≤◌, ◌+◌, ◌-◌, List, [], ◌∷◌, ◌++◌, length, drop, get_or}
-use Rattle.std.proofs.Common.{suc, arith, refl, sym, ap, subst, ◌∙◌, append_assoc, append-nil, Some, Ok, Err, Result}
-use Rattle.std.specs.Prelude.{map, nat_lt}
+use Rattle.std.proofs.Common.{suc, arith, refl, sym, ap, subst, ◌∙◌, append_assoc, append-nil, Option, Some, None, Ok, Err, Result}
+use Rattle.std.specs.Prelude.{map, nat_lt, IsSome}
 use Rattle.std.proofs.lemmas.Bool.Decides.{nat_tests}
 use Rattle.std.proofs.lemmas.List.{drop_more, length-drop, length-map, drop_all}
 use Rattle.cr_base.specs.declared.bulk.Broken.{Broken}
 use Rattle.cr_base.specs.declared.bulk.Broken.TheVariants as broken
 use Rattle.cr_base.specs.declared.bulk.BulkRow.{BulkRow}
+use Rattle.cr_base.specs.declared.bulk.RowCommand.{RowCommand}
+use Rattle.cr_base.specs.declared.bulk.RowCommand.TheVariants as of_row
+use Rattle.cr_base.specs.declared.command.Call.{Call}
 use Rattle.cr_base.specs.declared.command.Command.{Command}
+use Rattle.cr_base.specs.declared.command.Command.TheVariants as commands
+use Rattle.cr_base.specs.declared.entry.Account.{Account}
 use Rattle.cr_base.specs.declared.entry.Entry.{Entry}
 use Rattle.cr_base.specs.declared.entry.Stamp.{Stamp}
 use Rattle.cr_base.specs.declared.entry.Stamped.{Stamped}
+use Rattle.cr_base.specs.declared.reply.AccountLine.{AccountLine}
 use Rattle.cr_base.specs.declared.reply.Rule.{Rule}
+use Rattle.cr_base.specs.declared.resolved.ResolvedRow.{ResolvedRow}
+use Rattle.cr_base.specs.Accounts.{lines_of}
 use Rattle.cr_base.specs.Bulk.{and_behind, and_rows, bulk_behind, bulk_by_role, bulk_drawn, bulk_of_rows, entries_of}
-use Rattle.cr_base.specs.Bulk.{row_command, row_told_judged, rows_judged, tables_basis}
+use Rattle.cr_base.specs.Bulk.{command_of_row, resolve_row, resolved_of_row, row_command, row_told_judged, rows_judged}
+use Rattle.cr_base.specs.Bulk.{tables_basis}
+use Rattle.cr_base.specs.Bounds.{IsBoundedCommand}
 use Rattle.cr_base.specs.Drawn.{Drawn, stamped, grouped}
 use Rattle.cr_base.specs.History.{History}
+use Rattle.cr_base.specs.Logins.{command_wants_login, IfWanted}
+use Rattle.cr_base.specs.Resolving.{resolve, resolve_call, resolved_wants_login}
 use Rattle.cr_base.specs.Tables.{Tables, tables_after, tables_from}
 use Rattle.cr_base.specs.Sources.{facts_of_tables, shown_in_tables}
-use Rattle.cr_judge.specs.Rows.{AreEarlier, group_or_rule, row_group, row_judged_at}
-use Rattle.cr_book.specs.BulkRebuilding.{caller_judged, unfinished, row_judged_behind}
-use Rattle.cr_book.proofs.OpeningBulks.{rows-drawn, whole-group, map-more}
+use Rattle.cr_judge.specs.Callers.{HasCaller, HasFewAuthors}
+use Rattle.cr_judge.specs.Rows.{AreEarlier, group_or_rule, row_group, row_judged_at, row_resolved_at}
+use Rattle.cr_judge.proofs.RowLaws.{accounts-behind}
+use Rattle.cr_policy.specs.Legal.{CallsAs}
+use Rattle.cr_beginnings.specs.Beginnings.{caller_judged}
+use Rattle.cr_beginnings.proofs.BeginningLaws.{map-more, marked-grouped, marked-more, unfinished}
+use Rattle.cr_beginnings.proofs.BeginningRows.{rows-drawn}
+use Rattle.cr_book.specs.BulkRows.{row_judged_behind}
 
 -- the entries of rows behind which these are left
 abbrev pub grouped_before : Stamp → List BulkRow → List Entry → History
@@ -129,7 +146,7 @@ so-far-more t stamp n rows rest row items new entry more so judged pushed earlie
     marked [] last others =
         ap (λ (m : Bool). let s : Stamped = stamped stamp m entry in map (unfinished stamp) so.entries ++ s ∷ [])
         (last refl)
-        ∙ whole-group stamp so.entries entry
+        ∙ marked-more stamp so.entries entry false ∙ marked-grouped stamp (so.entries ++ entry ∷ [])
     marked (r ∷ rs) last others =
         ap (λ (m : Bool). let s : Stamped = stamped stamp m entry in map (unfinished stamp) so.entries ++ s ∷ [])
         (others r rs refl)
@@ -222,6 +239,25 @@ judged-command t earlier stamp row command result told is =
     ∙ ap (λ (r : Result Command Rule). group_or_rule
     (row_told_judged (facts_of_tables s (Some stamp.maker)) (shown_in_tables s) stamp r)) told
 
+-- a row by number, behind rows that leave the accounts, is judged as its command
+pub row-resolved : (t : Tables) (earlier : History) (stamp : Stamp) (command : RowCommand) (row : ResolvedRow)
+    → AreEarlier t earlier → row ≡ resolve_row (lines_of t.accounts) command
+    → row_resolved_at (tables_from t earlier) stamp (resolved_of_row row)
+    ≡ row_judged_at (tables_from t earlier) stamp (command_of_row command)
+row-resolved t earlier stamp command row are is =
+    ap (row_resolved_at (tables_from t earlier) stamp)
+    (ap resolved_of_row is ∙ by command
+    ∙ ap (λ (accounts : List Account). resolve (lines_of accounts) (command_of_row command))
+    (accounts-behind t earlier are.rows))
+  where
+    by : (command : RowCommand)
+        → resolved_of_row (resolve_row (lines_of t.accounts) command)
+        ≡ resolve (lines_of t.accounts) (command_of_row command)
+    by (of_row.Conflict paper name on) = refl
+    by (of_row.Assign paper name kind) = refl
+    by (of_row.Unassign paper name) = refl
+    by (of_row.Tag paper tag on) = refl
+
 pub judged-untold : (t : Tables) (earlier : History) (stamp : Stamp) (row : BulkRow) (rule : Rule)
     → Err rule ≡ row_command row
     → row_group stamp (Err rule) ≡ group_or_rule (row_judged_behind t earlier stamp row)
@@ -248,3 +284,27 @@ pub next-earlier : (t : Tables) (stamp : Stamp) (entry : Entry) (now items : His
     → AreEarlier t (items ++ stamped stamp more entry ∷ [])
 next-earlier t stamp entry now items same next more =
     subst (λ (h : History). AreEarlier t (h ++ stamped stamp more entry ∷ [])) same (next more)
+
+-- ---- a command by number
+
+-- it tells no more co-authors than an effect has place for
+pub few-authors : (command : Command) → IsBoundedCommand command → HasFewAuthors command
+few-authors (commands.Submit title abstract authors) bounded = bounded.2
+few-authors command bounded = tt
+
+-- and has a caller
+pub has-caller : (H : History) (accounts : List AccountLine) (call : Call)
+    → CallsAs H (command_wants_login call.command) call.caller → HasCaller (resolve_call accounts call)
+has-caller H accounts call calls = by call.caller call.command calls
+  where
+    some : (wanted : Bool) (user : ℕ) → IfWanted wanted (IsSome (Some user))
+    some true user = refl
+    some false user = tt
+
+    by : (caller : Option ℕ) (command : Command) → CallsAs H (command_wants_login command) caller
+        → IfWanted (resolved_wants_login (resolve accounts command)) (IsSome caller)
+    by (Some user) command is = some (resolved_wants_login (resolve accounts command)) user
+    by None (commands.Register name digest) is = tt
+    by None (commands.Tag paper tag true) is = absurd is
+    by None (commands.Tag paper tag false) is = absurd is
+    by None command is = absurd is

@@ -2,28 +2,13 @@
 use Rattle.std.proofs.Common.{◌≡◌, ◌⊎◌, inl, inr, List, [], ◌∷◌, ◌++◌, sym, ap, subst, ◌∙◌, append_assoc, append-nil}
 use Rattle.std.specs.List.{AllByRecursion}
 use Rattle.std.proofs.lemmas.List.{append_cancel_left}
-use Rattle.std.proofs.lemmas.List.Elements.{recursion_from_All}
 use Rattle.cr_base.specs.declared.row.Row.{Row}
 use Rattle.cr_base.specs.History.{History}
 use Rattle.cr_base.specs.Rows.{rows_of, IsBoundedEntry}
 use Rattle.cr_policy.specs.Legal.{Legal}
-use Rattle.cr_policy.proofs.LegalLaws.{legal_invariants}
 use Rattle.cr_book.specs.Opening.{Continue}
-use Rattle.cr_book.proofs.OpeningLegal.{MayMove, Next, legal-next, next-extends}
-use Rattle.cr_book.proofs.OpeningRows.{rows-split}
-
--- the entries of a legal history have rows
-pub legal-bounded : (H : History) → Legal H → AllByRecursion IsBoundedEntry H
-legal-bounded H legal = recursion_from_All IsBoundedEntry H (legal_invariants H legal).bounded
-
--- those of its last part, and those of its first
-pub last-bounded : (G H : History) → AllByRecursion IsBoundedEntry (G ++ H) → AllByRecursion IsBoundedEntry H
-last-bounded [] H all = all
-last-bounded (e ∷ G) H all = last-bounded G H all.1
-
-pub first-bounded : (G H : History) → AllByRecursion IsBoundedEntry (G ++ H) → AllByRecursion IsBoundedEntry G
-first-bounded [] H all = tt
-first-bounded (e ∷ G) H all = (all.0, first-bounded G H all.1)
+use Rattle.cr_beginnings.proofs.GroupLegal.{MayMove, Next, legal-next, next-extends}
+use Rattle.cr_beginnings.proofs.GroupRows.{legal-bounded, last-bounded, rows-split}
 
 some_rows : (pending : List Row) (row : Row) (after : List Row) → [] ≡ (pending ++ row ∷ []) ++ after → ⊥
 some_rows [] row after e = cc (e)

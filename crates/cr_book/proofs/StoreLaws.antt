@@ -135,9 +135,10 @@ shorter rows front last is goes =
     }
 
 -- rows that end inside a group are bad at the last one
-cut-bad : (t : List Row) (count at : ℕ) (log : History) (pending : List Row) (last : Row) → count ≡ length t
-    → at ≡ count - 1 → rows_of log ++ pending ≡ t → IsCutStore log pending last → Explains t (errors.BadStore at last)
-cut-bad t count at log pending last counted is all cut =
+cut-bad : (t : List Row) (count at : ℕ) (log begun : History) (last : Row) → count ≡ length t
+    → at ≡ count - 1 → rows_of log ++ rows_of begun ≡ t → IsCutStore log begun last
+    → Explains t (errors.BadStore at last)
+cut-bad t count at log begun last counted is all cut =
     let front : List Row = rows_of log ++ cut.before in
     let rows : t ≡ front ++ last ∷ [] = sym all ∙ ap (λ (x : List Row). rows_of log ++ x) cut.last_is
     ∙ sym (append_assoc (rows_of log) cut.before (last ∷ [])) in
@@ -154,13 +155,13 @@ cut-bad t count at log pending last counted is all cut =
       bad = inr (omega (arith, n, m, place), record { continue = goes; more = cut.cut.more });
     }
 
-pub cut-store : (told : Option (List Row)) (count at : ℕ) (log : History) (pending : List Row) (last : Row)
+pub cut-store : (told : Option (List Row)) (count at : ℕ) (log begun : History) (last : Row)
     (e : OpenError) → IfSome told (λ t. count ≡ length t) → at ≡ count - 1
-    → IfSome told (λ t. rows_of log ++ pending ≡ t) → IsCutStore log pending last → e ≡ errors.BadStore at last
+    → IfSome told (λ t. rows_of log ++ rows_of begun ≡ t) → IsCutStore log begun last → e ≡ errors.BadStore at last
     → IfSome told (λ t. Explains t e)
-cut-store None count at log pending last e counted is all cut told = tt
-cut-store (Some t) count at log pending last e counted is all cut told =
-    subst (λ (x : OpenError). Explains t x) (sym told) (cut-bad t count at log pending last counted is all cut)
+cut-store None count at log begun last e counted is all cut told = tt
+cut-store (Some t) count at log begun last e counted is all cut told =
+    subst (λ (x : OpenError). Explains t x) (sym told) (cut-bad t count at log begun last counted is all cut)
 
 -- ---- all of them
 
@@ -215,9 +216,9 @@ kept-rows (Some rows) now log same spells =
     subst (λ (o : Option (List Row)). IfSome o (λ rows. rows ≡ rows_of log)) (sym same) (sym spells)
 
 -- all rows were read and each group is whole
-pub whole-store : (told : Option (List Row)) (log read : History) (pending : List Row) (t : Tables)
-    → IfSome told (λ rows. rows_of log ++ pending ≡ rows) → IsWholeStore log pending read t
+pub whole-store : (told : Option (List Row)) (log begun read : History) (t : Tables)
+    → IfSome told (λ rows. rows_of log ++ rows_of begun ≡ rows) → IsWholeStore log begun read t
     → IfSome told (λ rows. rows_of read ≡ rows)
-whole-store None log read pending t all whole = tt
-whole-store (Some rows) log read pending t all whole = ap rows_of whole.log_is ∙ sym (append-nil (rows_of log))
-    ∙ ap (λ (x : List Row). rows_of log ++ x) (sym whole.none) ∙ all
+whole-store None log begun read t all whole = tt
+whole-store (Some rows) log begun read t all whole = ap rows_of whole.log_is ∙ sym (append-nil (rows_of log))
+    ∙ ap (λ (g : History). rows_of log ++ rows_of g) (sym whole.none) ∙ all

@@ -7,7 +7,8 @@ use Rattle.cr_base.specs.Accounts.{lines_of}
 use Rattle.cr_base.specs.Drawn.{Drawn, receipt_of}
 use Rattle.cr_base.specs.History.{History}
 use Rattle.cr_base.specs.Keys.{kept_under}
-use Rattle.cr_base.specs.Retries.{KeptCall, kept_call, name_told_by, repeated_receipt, Outcome, Repeats, Judged}
+use Rattle.cr_base.specs.Retries.{KeptCall, kept_call, repeated_receipt, Outcome, Repeats, Judged}
+use Rattle.cr_base.specs.Sources.{name_told_by}
 use Rattle.cr_base.specs.Rows.{key_mark}
 use Rattle.cr_base.specs.Tables.{Tables}
 use Rattle.cr_log.specs.Seen.{SeenKept}

@@ -1,8 +1,7 @@
 pub mod Earlier
 pub mod Opening
 pub mod Reading
-pub mod BulkRebuilding
-pub mod Rebuilding
+pub mod BulkRows
 pub mod Seen
 pub mod Sound
 pub mod Stopping

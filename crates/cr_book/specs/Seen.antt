@@ -1,7 +1,6 @@
 -- What contracts see of a book, and of one that is being read.
 use Rattle.std.specs.Prelude.{List}
 use Rattle.cr_base.specs.declared.entry.Stamped.{Stamped}
-use Rattle.cr_base.specs.declared.row.Row.{Row}
 
 -- the history, the keeper of its rows, and that keeper as it was when the book was opened
 pub record SeenBook (K : Type 0) : Type 0 where
@@ -9,7 +8,7 @@ pub record SeenBook (K : Type 0) : Type 0 where
   pub keeper : K
   pub opened : K
 
--- the history of the groups that are whole, and the rows of the one that isn't yet
+-- the history of the groups that are whole, and the entries of the one that isn't yet
 pub record SeenReading : Type 0 where
   pub log : List Stamped
-  pub pending : List Row
+  pub begun : List Stamped

@@ -35,7 +35,7 @@ use cr_base::{
     Broken, BulkRows, Call, Command, Digest, EntryKind, Moment, PerPaper, PlanLoad, Query, Receipt,
     Reply, Report, RetryKey, Rule, Search, Short, Stamp, Stamped, UserNo,
 };
-use cr_judge::judge;
+use cr_judge::{judge, resolve_call};
 use cr_lock::Stands;
 use cr_log::Log;
 use cr_ports::{Keeper, KeeperError, Sink};
@@ -88,18 +88,22 @@ pub enum BookError<B> {
 }
 
 impl<K: Keeper> Book<K> {
-    /// The book of the legal history that the keeper's rows spell; with each error the keeper is handed
-    /// back. Every row is read once, in order, and the command of its group is judged again, by the same
-    /// judgement and on the history before it; at each row of the group, so one of n rows costs n judgements.
-    /// Only a submission's has more than two rows, 20 at most; its judgement looks up each co-author told so far.
-    /// Each row of a bulk is judged once, behind the entries of the rows before it, over which its judgement walks.
-    /// A group whose command had a number costs one look-up more, at its first row.
+    /// Opens the book of the legal history that the keeper's rows spell. No row changes.
     ///
-    /// `OpenError::BadStore` comes exactly where no legal history has these rows, and tells the first that
-    /// is no entry's or doesn't continue a legal history, or else the last one, where another of its
-    /// command or its bulk should follow. `KeeperFault` comes only where the keeper's count of faults rose, or stands
-    /// at its last value; with all else the count is as it was, and `OutOfMemory` comes for lack of memory
-    /// alone. No row changes.
+    /// # Errors
+    ///
+    /// Each hands the keeper back. `BadStore`: no legal history has these rows; it tells the first that is no entry's
+    /// or doesn't continue a legal history, or else the last one, if another of its command or its bulk should follow.
+    /// `KeeperFault`: the keeper's count of faults rose, or is at its last value; with every other outcome it is as it
+    /// was. `OutOfMemory`: for lack of memory only.
+    ///
+    /// # Cost
+    ///
+    /// Grows with the rows only. Each is read and decoded once, in order. The command that a group's first entry tells
+    /// is judged once, by the same judgement and on the history before it; a group whose command had a number costs one
+    /// look-up more. After the first entry a co-author costs one read by number and a walk over those told so far, at
+    /// most 18, and a row of a bulk one judgement, which walks over the entries of the rows before it, at most 511. A
+    /// group's entries are held until it is whole.
     pub fn open(alloc: Global, mut keeper: K) -> Result<Book<K>, (OpenError, K)>
         ensures exact { IfSome (K.rows keeper) (λ rows. Opens rows result) }
         ensures legal { IfOk result (λ book. Legal book.log) }
@@ -130,12 +134,13 @@ impl<K: Keeper> Book<K> {
         }
     }
 
-    /// Gives the keeper back, which keeps the rows of the history; takes no memory.
+    /// Gives the keeper back, which keeps the rows of the history and is of the kind that was opened; takes no memory.
     ///
-    /// What a stop of the machine since the opening might have left opens to the rows of a history that goes on from
-    /// the one that was opened and is a beginning of the last one, or to these and then whole the group of one
-    /// command or bulk more: that is so where the keeper tells it, and had tried nothing in vain when the book was
-    /// opened. Something was tried in vain since then only if its count of faults rose, or stands at its last value.
+    /// Suppose that the keeper tells what a stop of the machine may leave, and had tried nothing in vain when the book
+    /// was opened. Then what a stop since the opening might have left opens to the rows of a history that goes on from
+    /// the one that was opened and is a beginning of the last one. The whole group of one more command or bulk may
+    /// follow. Something was tried in vain since then only if the keeper's count of faults rose, or is at its last
+    /// value.
     pub fn close(self) -> K
         ensures same { result ≡ self.keeper }
         ensures kept { IsKept K.rows result self.log }
@@ -155,22 +160,29 @@ impl<K: Keeper> Book<K> {
         keeper
     }
 
-    /// What a command of this caller comes to, given at this moment by this number. Where she had one of the same
-    /// number accepted, it isn't judged: if the marks are the same, it is a repeat, which is answered and changes
-    /// nothing; else it breaks `Rule::NumberUsed`. Every other command is judged, and where no rule is broken, what it
-    /// adds is kept and applied. Each entry that it adds has the moment, the number and the mark.
+    /// Judges a command of this caller, given at this moment under this number, and if no rule is broken, keeps and
+    /// applies what it adds. Each entry that it adds has the moment, the number and the mark.
     ///
-    /// The caller is nobody on a registration, which has no number, and the command is within the bounds on its parts.
-    /// On each error the history and the keeper's rows stay as they were. A repeat is answered, and a broken rule is
-    /// told, whatever memory there is, so both other errors come only for a command that is judged and accepted.
-    /// `KeeperFault` comes only where the keeper's count of faults rose, or stands at its last value; with all else the
-    /// count is as it was, and `OutOfMemory` comes for lack of memory alone.
+    /// If the caller had a command of the same number accepted, this one isn't judged. If the marks are the same, it is
+    /// a repeat, which is answered and changes nothing; else it breaks `Rule::NumberUsed`.
     ///
-    /// Where the keeper tells what a stop of the machine may leave: one at a moment of the call leaves the rows that
-    /// were there, or these and then whole one group: the command's, or one that was tried since the last that was
-    /// kept. Where memory runs out, nothing was tried.
+    /// The caller of a registration is nobody, and it has no number. The command is within the bounds on its parts.
     ///
-    /// A number costs one look-up, however many there are.
+    /// If the keeper tells what a stop of the machine may leave, a stop at a moment of the call leaves the rows that
+    /// were there, or these and one whole group: the command's, or one that was tried since the last that was kept. If
+    /// memory ran out, nothing was tried.
+    ///
+    /// # Errors
+    ///
+    /// With each the history and the keeper's rows stay as they were. `Broken`: the first broken rule, whatever memory
+    /// there is; so is a repeat answered. The others come only for a command that is judged and accepted.
+    /// `KeeperFault`: the keeper's count of faults rose, or is at its last value; with every other outcome it is as it
+    /// was. `OutOfMemory`: for lack of memory only.
+    ///
+    /// # Cost
+    ///
+    /// One look-up for a number, however many there are; for a command that is judged, what `judge` of `cr_judge` does,
+    /// with one look-up for each user named.
     pub fn command(
         &mut self,
         caller: &Option<UserNo>,
@@ -239,7 +251,7 @@ impl<K: Keeper> Book<K> {
         }
     }
 
-    /// The same of a command whose number, if it has one, is new: it is judged.
+    /// Judges a command whose number, if it has one, is new, and keeps and applies what it adds, as `command` says.
     fn judge_command(&mut self, call: Call) -> Result<Receipt, BookError<Rule>>
         requires { IsAllowed self.old.log call }
         ensures accepted { IfOk result
@@ -265,7 +277,7 @@ impl<K: Keeper> Book<K> {
             → judge (view call.caller self.old.log) call ≡ Ok drawn
             → Adding K.Keeper result self.old.log drawn.group self.old.keeper self.new.keeper }
     {
-        let effect = match judge(&self.live, call) {
+        let effect = match judge(&self.live, resolve_call(&self.live, call)) {
             Ok(effect) => effect,
             Err(rule) => return Err(BookError::Broken(rule)),
         };
@@ -279,21 +291,27 @@ impl<K: Keeper> Book<K> {
         }
     }
 
-    /// What a bulk of this caller comes to, given at this moment by this number: looked up as a command's, and then a
-    /// repeat, which is answered the number of rows that were added, or a bulk that breaks `Rule::NumberUsed` as a
-    /// whole. Else it is judged, each row behind those before it, and where no rule is broken, the entries of all rows
-    /// are kept and applied, each with the moment, the number and the mark.
+    /// Judges a bulk of this caller, a registered user, given at this moment under this number: each row after those
+    /// before it. If no rule is broken, the entries of all rows are kept and applied, each with the moment, the number
+    /// and the mark.
     ///
-    /// The caller is a registered user. On each error the history and the keeper's rows stay as they were: so of a
-    /// bulk with a broken row nothing is kept. A repeat is answered, and what is broken is told, whatever memory there
-    /// is, since look-up and judging take none; so both other errors come only for a bulk that is judged and accepted.
-    /// `KeeperFault` comes only where the keeper's count of faults rose, or stands at its last value; with all else the
-    /// count is as it was, and `OutOfMemory` comes for lack of memory alone.
+    /// The number is looked up as a command's. A repeat is answered the number of rows that were added; a number that
+    /// was used otherwise breaks `Rule::NumberUsed` of the bulk as a whole.
     ///
     /// A stop of the machine at a moment of the call leaves what one at a command's does.
     ///
-    /// Costs one look-up where it has a number; and where it is judged, one judgement for each row, which walks over
-    /// the entries of the rows before it, at most 511; the keeper is asked once.
+    /// # Errors
+    ///
+    /// With each the history and the keeper's rows stay as they were, so of a bulk with a broken row nothing is kept.
+    /// `Broken`: a rule on the bulk as a whole, else its first broken row, whatever memory there is; so is a repeat
+    /// answered. The others come only for a bulk that is judged and accepted. `KeeperFault`: the keeper's count of
+    /// faults rose, or is at its last value; with every other outcome it is as it was. `OutOfMemory`: for lack of
+    /// memory only.
+    ///
+    /// # Cost
+    ///
+    /// One look-up if it has a number. If it is judged, one look-up for each row that names a user, and for each row one
+    /// judgement, which walks over the entries of the rows before it, at most 511. The keeper is asked once.
     pub fn bulk(
         &mut self,
         caller: UserNo,
@@ -362,7 +380,8 @@ impl<K: Keeper> Book<K> {
         }
     }
 
-    /// The same of a bulk under this stamp whose number, if it has one, is new: its rows are judged.
+    /// Judges a bulk with this metadata whose number, if it has one, is new, and keeps and applies what it adds, as
+    /// `bulk` says.
     fn judge_rows(&mut self, stamp: Stamp, rows: BulkRows) -> Result<Receipt, BookError<Broken>>
         requires { IsBulkAllowed self.old.log (record { stamp = stamp; rows = rows }) }
         ensures accepted { IfOk result (λ receipt. Acts
@@ -403,7 +422,7 @@ impl<K: Keeper> Book<K> {
         }
     }
 
-    /// Takes the room for a group, its number's place with it, keeps it and applies it: after the keeper has kept it
+    /// Takes the room for a group, its number's place with it, keeps it and applies it: once the keeper has kept it
     /// nothing can fail. The texts are in the entries, which the tables keep; rows and history share them. Nothing is
     /// judged, so nothing is told as broken.
     fn keep<B>(&mut self, group: Vec<Stamped>) -> Result<(), BookError<B>>
@@ -448,12 +467,17 @@ impl<K: Keeper> Book<K> {
         Ok(())
     }
 
-    /// The answer to a query of this caller, a registered user, or nobody where no login is wanted for the
-    /// query; or the first broken rule, which is told whatever memory there is, but for `NoPlan`, which memory finds.
-    /// `AnswerError::OutOfMemory` comes for lack of memory alone, and never where the state of the conference is asked
-    /// for. The keeper isn't asked.
+    /// Answers a query of this caller: a registered user, or nobody if the query requires no login. The keeper isn't
+    /// asked.
     ///
-    /// Its rules are asked first, which costs what `may` of `cr_view` does. A query that breaks none costs besides:
+    /// # Errors
+    ///
+    /// `Rule`: the first broken rule, whatever memory there is; but it takes memory to find `NoPlan`. `OutOfMemory`:
+    /// for lack of memory only, and never for the state of the conference.
+    ///
+    /// # Cost
+    ///
+    /// The rules are checked first, which costs what `may` of `cr_view` does. A query that breaks none costs besides:
     ///
     /// - `Accounts`: a walk over all accounts.
     /// - `AcceptedPapers`: a walk over all papers, with a few look-ups for each that is accepted.
@@ -470,7 +494,7 @@ impl<K: Keeper> Book<K> {
     /// - `Plan`: what `answer` of `cr_plans` does.
     /// - `Phase`, `Deadlines`: nothing that grows.
     ///
-    /// But for a search and a letter, the length of texts and contents makes no difference.
+    /// The length of texts and contents makes no difference, except for a search and a letter.
     pub fn answer(&self, caller: &Option<UserNo>, query: &Query) -> Result<Reply, AnswerError>
         requires { MayAsk self.now.log (needs_login (view None self.now.log) query.now) caller.now }
         ensures answered { AnswersOrPlans result (answer caller.now (view caller.now self.now.log) query.now) }
@@ -487,7 +511,11 @@ impl<K: Keeper> Book<K> {
         }
     }
 
-    /// The answer to a search, which no rule stands in the way of; an error only for lack of memory.
+    /// Answers a search that breaks no rule.
+    ///
+    /// # Errors
+    ///
+    /// Only for lack of memory.
     fn answer_search(
         &self,
         caller: &Option<UserNo>,
@@ -505,8 +533,11 @@ impl<K: Keeper> Book<K> {
         }
     }
 
-    /// A report, or the first rule that it breaks, which is told whatever memory there is; else an
-    /// error only for lack of memory.
+    /// Answers a report.
+    ///
+    /// # Errors
+    ///
+    /// The first broken rule, whatever memory there is; else only for lack of memory.
     fn answer_report(&self, caller: &Option<UserNo>, report: &Report) -> Result<Reply, AnswerError>
         requires { MayAsk self.now.log (needs_login (view None self.now.log) (queries.Report report.now)) caller.now }
         ensures { AnswersAsDue result (answer caller.now (view caller.now self.now.log) (queries.Report report.now)) }
@@ -514,8 +545,12 @@ impl<K: Keeper> Book<K> {
         cr_reports::answer(self.alloc, &self.live, caller, report)
     }
 
-    /// A plan, or the first rule that it breaks, which is told whatever memory there is, but for `NoPlan`; else an
-    /// error only for lack of memory. It is solved here, in the turn.
+    /// Answers a plan, which is solved here, in the turn.
+    ///
+    /// # Errors
+    ///
+    /// The first broken rule, whatever memory there is; but it takes memory to find `NoPlan`. Else only for lack of
+    /// memory.
     fn answer_plan(
         &self,
         caller: &Option<UserNo>,
@@ -528,31 +563,41 @@ impl<K: Keeper> Book<K> {
         cr_plans::answer(self.alloc, &self.live, caller, per_paper, load)
     }
 
-    /// The user whose registration has this name and this digest, and none exactly where nobody's has
-    /// them. One look-up by name; takes no memory.
+    /// Returns the user whose registration has this name and this digest; `None` if and only if nobody's has them.
+    ///
+    /// # Cost
+    ///
+    /// Takes no memory; one look-up by name.
     pub fn caller(&self, name: &Short, digest: &Digest) -> Option<UserNo>
         ensures { result ≡ caller_of name.now digest.now self.now.log }
     {
         self.live.caller(name, digest)
     }
 
-    /// The user who registered this name, and none exactly where nobody did. One look-up by name;
-    /// takes no memory.
+    /// Returns the user who registered this name; `None` if and only if nobody did.
+    ///
+    /// # Cost
+    ///
+    /// Takes no memory; one look-up by name.
     pub fn number_of(&self, name: &Short) -> Option<UserNo>
         ensures { result ≡ number_of name.now self.now.log }
     {
         self.live.number_of(name)
     }
 
-    /// Whether a login is wanted for a query, as what nobody sees of the history tells: for each that is a
-    /// registered user's, but for the page and the content of a published paper. A few look-ups; takes no memory.
+    /// Returns whether a query requires a login, by what nobody sees of the history: each of a registered user's does,
+    /// except the page and the content of a published paper.
+    ///
+    /// # Cost
+    ///
+    /// Takes no memory; a few look-ups.
     pub fn needs_login(&self, query: &Query) -> bool
         ensures { result ≡ needs_login (view None self.now.log) query.now }
     {
         self.live.needs_login(query)
     }
 
-    /// How many entries the history has; takes no memory.
+    /// Returns how many entries the history has; takes no memory.
     pub fn entries(&self) -> u64
         ensures value { result ≡ length self.now.log }
         ensures legal { Legal self.now.log }
@@ -560,7 +605,11 @@ impl<K: Keeper> Book<K> {
         self.log.len()
     }
 
-    /// How many entries of this kind the history has. One walk over the history; takes no memory.
+    /// Counts the entries of this kind in the history.
+    ///
+    /// # Cost
+    ///
+    /// Takes no memory; one walk over the history.
     pub fn count_of_kind(&self, kind: EntryKind) -> u64
         ensures { result ≡ count_of_kind kind self.now.log }
     {
@@ -570,10 +619,17 @@ impl<K: Keeper> Book<K> {
 
 /// What a user sees of the history.
 impl<K: Keeper> Book<K> {
-    /// Writes the user's view, one line a sighting: a compact JSON object with the parts that she is shown, its keys
-    /// in the order of their bytes. Behind an error a part of the lines was written. `WriteFault` comes only where the
-    /// sink's count of faults rose, or stands at its last value; else the count is as it was, and `OutOfMemory` comes
-    /// for lack of memory alone. No view is made in memory: see `write_view` for the cost.
+    /// Writes the user's view, one line for each sighting: a compact JSON object with the parts that the user is shown,
+    /// its keys in the order of their bytes.
+    ///
+    /// # Errors
+    ///
+    /// With each a part of the lines may have been written. `WriteFault`: the sink's count of faults rose, or is at its
+    /// last value; with every other outcome it is as it was. `OutOfMemory`: for lack of memory only.
+    ///
+    /// # Cost
+    ///
+    /// That of `write_view`; no view is made in memory.
     pub fn view_lines<O: Sink>(&self, user: UserNo, sink: &mut O) -> Result<(), ViewError>
         ensures { let outlet = outlet_of O.taken O.faults in
             WritesView result (lines_text (view (Some user) self.now.log)) (outlet sink.old) (outlet sink.new) }
@@ -581,8 +637,15 @@ impl<K: Keeper> Book<K> {
         write_view(self.alloc, &self.live, self.log.entries(), user, sink)
     }
 
-    /// The length of the user's view, which is the number of lines that `view_lines` writes; an error only for want of
-    /// memory. Costs two walks over the history, with a few look-ups an entry.
+    /// Returns the length of the user's view, which is the number of lines that `view_lines` writes.
+    ///
+    /// # Errors
+    ///
+    /// Only for lack of memory.
+    ///
+    /// # Cost
+    ///
+    /// Two walks over the history, with a few look-ups for each entry.
     pub fn view_len(&self, user: UserNo) -> Result<u64, AllocError>
         ensures { IfOk result (λ n. n ≡ length (view (Some user) self.now.log)) }
     {
@@ -590,8 +653,7 @@ impl<K: Keeper> Book<K> {
     }
 }
 
-/// Behind a lock a book stands for its history, its count of faults is its keeper's, and it remembers the keeper with
-/// which it was opened.
+/// What a lock sees of a book: its history, its keeper's count of faults, and the keeper with which it was opened.
 impl<K: Keeper> Stands for Book<K> {
     type Entry = Stamped;
 

@@ -23,7 +23,7 @@ pub(crate) enum Earlier {
     Other,
 }
 
-/// The mark that the entry's command had; no bytes where it had no number.
+/// Returns the mark that the entry's command had; no bytes if it had no number.
 fn mark_of(first: &Stamped) -> &[u8]
     ensures { result.now ≡ key_mark first.now.stamp.key }
 {
@@ -33,15 +33,15 @@ fn mark_of(first: &Stamped) -> &[u8]
     }
 }
 
-/// Whether the entry was added by a command of this mark.
+/// Returns whether a command of this mark added the entry.
 fn has_mark(first: &Stamped, mark: &Digest) -> bool
     ensures { result ≡ bytes_eq (key_mark first.now.stamp.key) mark.now }
 {
     mark_of(first) == mark.as_slice()
 }
 
-/// What a repeat of the command that added these is answered: a bulk the number of rows, any other command what the
-/// first entry tells.
+/// Returns the receipt of a repeat of the command that added these: of a bulk the number of rows, of any other command
+/// what the first entry tells.
 fn receipt_again(live: &Live, kept: &KeptEntries<'_>, is_bulk: bool) -> Receipt
     ensures { result ≡ repeated_receipt is_bulk (kept_seen (lines_of live.now.tables.accounts) kept.now) }
 {
@@ -52,9 +52,13 @@ fn receipt_again(live: &Live, kept: &KeptEntries<'_>, is_bulk: bool) -> Receipt
     }
 }
 
-/// What the history has under this caller's command number, where the command, which may be a bulk, has one. One
-/// look-up by number, and where the command repeats one that gave somebody a role one read by number; takes no
-/// memory, and judges nothing.
+/// Looks up what the history has under this caller's number of the command, which may be a bulk, if it has one. Nothing
+/// is judged.
+///
+/// # Cost
+///
+/// Takes no memory. One look-up by number; if the command repeats one that gave somebody a role, one read by number
+/// more.
 pub(crate) fn look_up(
     log: &Log,
     live: &Live,

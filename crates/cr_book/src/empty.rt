@@ -5,7 +5,11 @@ use crate::book::Book;
 use cr_ports::PlainKeeper;
 use std::alloc::{AllocError, Global};
 
-/// A book without entries, whose rows stand in memory. An error only for lack of memory.
+/// Creates a book without entries, which keeps its rows in memory.
+///
+/// # Errors
+///
+/// Only for lack of memory.
 pub fn empty_book(alloc: Global) -> Result<Book<PlainKeeper>, AllocError>
     ensures { IfOk result (λ book. book.log ≡ []) }
 {

@@ -1,18 +1,22 @@
-//! What is judged of a bulk: its caller, and each row behind those before it.
+//! What is judged of a bulk: its caller, and each row after those before it.
 ghost use Rattle.std.specs.Prelude.{◌≡◌, ◌≤◌, ◌<◌, ◌+◌, ◌++◌, ◌∷◌, Bool, [], IfOk, IfErr, Ok, Err, length};
 ghost use Rattle.cr_base.specs.declared.bulk.Broken.TheVariants as broken;
 ghost use Rattle.cr_base.specs.Bulk.{bulk_by_role, bulk_drawn, entries_of, rows_judged, tables_basis};
 ghost use Rattle.cr_base.specs.Drawn.{grouped, stamped};
 ghost use Rattle.cr_base.specs.Tables.{tables_from};
 ghost use Rattle.cr_judge.specs.Rows.{AreEarlier, group_or_rule, row_group};
-ghost use Rattle.cr_book.specs.BulkRebuilding.{row_judged_behind};
+ghost use Rattle.cr_book.specs.BulkRows.{row_judged_behind};
 
 use cr_base::{Broken, BulkRow, BulkRows, Entry, Rule, Stamp, Stamped};
 use cr_bulk::row_command;
-use cr_judge::may_bulk;
+use cr_judge::{may_bulk, resolve_row};
 use cr_view::Live;
 
-/// The entry that a row draws behind those of the rows before it, or the first broken rule.
+/// Returns the entry that a row draws after those of the rows before it.
+///
+/// # Errors
+///
+/// The first broken rule.
 fn judge_row(live: &Live, stamp: &Stamp, row: &BulkRow, earlier: &[Stamped]) -> Result<Entry, Rule>
     requires { AreEarlier live.now.tables earlier.now }
     ensures judged { row_group stamp.now result
@@ -21,12 +25,12 @@ fn judge_row(live: &Live, stamp: &Stamp, row: &BulkRow, earlier: &[Stamped]) -> 
         (earlier.now ++ stamped stamp.now more entry ∷ [])) }
 {
     match row_command(row) {
-        Ok(command) => cr_judge::judge_row(live, stamp, command, earlier),
+        Ok(command) => cr_judge::judge_row(live, stamp, resolve_row(live, command), earlier),
         Err(rule) => Err(rule),
     }
 }
 
-/// That the row at this index, of at most 512, breaks the rule.
+/// Tells that the row at this index, from 0 and under 512, breaks the rule.
 fn row_broken(index: usize, rule: Rule) -> Broken
     requires { index < 512 }
     ensures { result ≡ broken.Row (index + 1) rule }
@@ -37,8 +41,11 @@ fn row_broken(index: usize, rule: Rule) -> Broken
     }
 }
 
-/// The group of the entries of all rows, in a vector that is empty and has room for them; or
-/// the first row that breaks a rule.
+/// Returns the entries of all rows as one group, in a vector that is empty and has room for them.
+///
+/// # Errors
+///
+/// The first row that breaks a rule.
 fn judge_rows(
     live: &Live,
     stamp: &Stamp,
@@ -69,8 +76,15 @@ fn judge_rows(
     Ok(entries)
 }
 
-/// The group of a bulk under this stamp, or what is broken: the rule on the bulk as a whole, or the first row that
-/// breaks one. Takes no memory. Costs one judgement for each row, which walks over the entries of the rows before it.
+/// Returns the group of a bulk with this metadata.
+///
+/// # Errors
+///
+/// What is broken: a rule on the bulk as a whole, else the first row that breaks one.
+///
+/// # Cost
+///
+/// Takes no memory. One judgement for each row, which walks over the entries of the rows before it.
 pub(crate) fn judge_bulk(live: &Live, stamp: &Stamp, rows: BulkRows) -> Result<Vec<Stamped>, Broken>
     ensures accepted { IfOk result (λ group. bulk_by_role live.now.tables (record { stamp = stamp.now; rows = rows })
         ≡ Ok (bulk_drawn stamp.now (length group.items) (entries_of group.items))) }

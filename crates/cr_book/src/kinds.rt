@@ -4,14 +4,18 @@ ghost use Rattle.cr_book.specs.Kinds.{count_of_kind, is_of_kind};
 
 use cr_base::{EntryKind, Stamped};
 
-/// Whether an entry is of the kind.
+/// Returns whether an entry is of the kind.
 fn is_of_kind(stamped: &Stamped, kind: EntryKind) -> bool
     ensures { result ≡ is_of_kind kind stamped.now }
 {
     stamped.entry.kind().number() == kind.number()
 }
 
-/// How many of these entries are of the kind. One walk over them; takes no memory.
+/// Counts the entries of the kind.
+///
+/// # Cost
+///
+/// Takes no memory; one walk over the entries.
 pub(crate) fn count_of_kind(entries: &[Stamped], kind: EntryKind) -> usize
     ensures { result ≡ count_of_kind kind entries.now }
 {

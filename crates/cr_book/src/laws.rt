@@ -6,8 +6,8 @@ ghost use Rattle.cr_base.specs.Sources.{standing_at};
 ghost use Rattle.cr_base.specs.Tables.{tables_of};
 ghost use Rattle.cr_policy.specs.Legal.{Legal};
 
-/// How a user, or nobody, stands by the tables of a legal history, as `Live::standing` tells it, is how
-/// she stands by the history: phase, mode, role, and her ties to a paper, where one is named.
+/// States that the tables of a legal history, as `Live::standing` reads them, give a user, or nobody, the same phase,
+/// mode, role and ties to a paper, if one is named, as the history does.
 pub fn law_standing_by_tables()
     ensures { (user paper : Option ℕ) (H : History) → Legal H
         → standing_at (tables_of H) user paper ≡ standing_of user paper H }

@@ -32,7 +32,7 @@ pub enum OpenError {
     OutOfMemory,
 }
 
-/// The same of a keeper that told nothing.
+/// Returns why a store doesn't open whose keeper told nothing.
 fn untold(error: KeeperError) -> OpenError
     ensures { result ≡ untold error }
 {
@@ -42,7 +42,7 @@ fn untold(error: KeeperError) -> OpenError
     }
 }
 
-/// The same of a refused row of this number.
+/// Returns why a store doesn't open in which the row of this number, from 0, was refused.
 fn refusal(row: u64, error: ReadError) -> OpenError
     ensures { result ≡ refusal row error }
 {
@@ -56,7 +56,7 @@ fn refusal(row: u64, error: ReadError) -> OpenError
 fn read_rows<K: Keeper>(alloc: Global, keeper: &mut K, count: u64) -> Result<Reading, OpenError>
     requires { IfSome (K.rows keeper.old) (λ rows. count ≡ length rows) }
     ensures spelled { IfOk result
-        (λ read. IfSome (K.rows keeper.old) (λ rows. rows_of read.log ++ read.pending ≡ rows)) }
+        (λ read. IfSome (K.rows keeper.old) (λ rows. rows_of read.log ++ rows_of read.begun ≡ rows)) }
     ensures bad { IfErr result (λ e. IfSome (K.rows keeper.old) (λ rows. Explains rows e)) }
     ensures same { K.rows keeper.new ≡ K.rows keeper.old }
     ensures alike { K.kind keeper.new ≡ K.kind keeper.old }
@@ -77,7 +77,11 @@ fn read_rows<K: Keeper>(alloc: Global, keeper: &mut K, count: u64) -> Result<Rea
     Ok(reading)
 }
 
-/// The history that the keeper's rows spell, with its tables.
+/// Reads the history that the keeper's rows spell, with its tables.
+///
+/// # Errors
+///
+/// As of `Book::open`.
 pub(crate) fn read_all<K: Keeper>(alloc: Global, keeper: &mut K) -> Result<(Log, Live), OpenError>
     ensures legal { IfOk result (λ read. Legal read.0.entries × (read.1.tables ≡ tables_of read.0.entries)) }
     ensures spelled { IfOk result (λ read. IfSome (K.rows keeper.old) (λ rows. rows_of read.0.entries ≡ rows)) }

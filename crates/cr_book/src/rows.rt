@@ -5,7 +5,11 @@ ghost use Rattle.cr_base.specs.Rows.{rows_of};
 use cr_base::{Row, Stamped};
 use std::alloc::{AllocError, Global};
 
-/// The row of each entry, in order; an error only for lack of memory.
+/// Returns the row of each entry, in order.
+///
+/// # Errors
+///
+/// Only for lack of memory.
 pub(crate) fn rows_of(alloc: Global, group: &[Stamped]) -> Result<Vec<Row>, AllocError>
     ensures { IfOk result (λ rows. rows.items ≡ rows_of group.now) }
 {
@@ -16,7 +20,11 @@ pub(crate) fn rows_of(alloc: Global, group: &[Stamped]) -> Result<Vec<Row>, Allo
     Ok(rows)
 }
 
-/// An equal entry for each, in order, which shares its texts; an error only for lack of memory.
+/// Returns an equal entry for each, in order, which shares its texts.
+///
+/// # Errors
+///
+/// Only for lack of memory.
 pub(crate) fn copies_of(alloc: Global, group: &[Stamped]) -> Result<Vec<Stamped>, AllocError>
     ensures { IfOk result (λ copies. copies.items ≡ group.now) }
 {

@@ -46,7 +46,7 @@ ReviewsForAuthors =
     })
     (view u H)
 
--- of each label one at most
+-- before the notification a paper's authors are shown at most one form of each label
 abbrev pub OneReview : Type 0
 OneReview =
     (u : Option ℕ) (p o : ℕ) (H : History) → IsTrue (is_author u p H) → IsFalse (is_past_discussion (phase_of H))
@@ -54,7 +54,7 @@ OneReview =
     (view u H))
     ≤ 1
 
--- and none that was written when the response had been opened
+-- and no form that was written after the response was opened
 abbrev pub ReviewsBehindUnseen : Type 0
 ReviewsBehindUnseen =
     (u : Option ℕ) (p : ℕ) (H : History) → IsTrue (is_author u p H) → IsFalse (is_past_discussion (phase_of H))
@@ -77,13 +77,13 @@ pub data IsSameUnlessUnheard (u : Option ℕ) (H : History) (at : Around) : Stam
       → IsSameUnlessUnheard u H at (stamped stamp more (Reviewed paper ordinal version form))
       (stamped stamp more (Reviewed paper ordinal version other))
 
--- before the notification a user sees the same, whatever stands in such forms
+-- before the notification a user sees the same, whatever is in such forms
 abbrev pub UnheardForms : Type 0
 UnheardForms =
     (u : Option ℕ) (H H' : History) → IsFalse (is_past_discussion (phase_of H))
     → PlaceByPlace (IsSameUnlessUnheard u H) [] H H' → view u H ≡ view u H'
 
--- and she sees the same without one that was written when the response had been opened
+-- and sees the same without a form that was written after the response was opened
 abbrev pub LaterForms : Type 0
 LaterForms =
     (u : Option ℕ) (before after : History) (stamp : Stamp) (more : Bool) (paper ordinal version : ℕ) (form : Form)

@@ -52,22 +52,22 @@ abbrev pub is_over : Phase → Bool
 is_over Closed = true
 is_over _ = false
 
--- it is the notification, or later
+-- the phase is the notification or later
 abbrev pub is_past_discussion : Phase → Bool
 is_past_discussion Notification = true
 is_past_discussion phase = is_over phase
 
--- it is the discussion, or later: the reviewing is behind, and forms may still be written
+-- the phase is the discussion or later: the reviewing is over, and forms may still be written
 abbrev pub is_past_reviewing : Phase → Bool
 is_past_reviewing Discussion = true
 is_past_reviewing phase = is_past_discussion phase
 
--- it is the response, or later, where it was opened or left out
+-- the phase is the response or later, whether it was opened or left out
 abbrev pub is_response_or_later : Phase → Bool
 is_response_or_later Response = true
 is_response_or_later phase = is_past_reviewing phase
 
--- it is bidding, or later
+-- the phase is bidding or later
 abbrev pub is_past_submission : Phase → Bool
 is_past_submission Bidding = true
 is_past_submission Reviewing = true
@@ -90,51 +90,51 @@ names_reviewers Overt = true
 names_reviewers Blind = false
 names_reviewers Anonymous = false
 
--- she wrote the paper, or is declared in conflict with it
+-- the user wrote the paper, or is declared in conflict with it
 abbrev pub has_conflict : Option ℕ → ℕ → History → Bool
 has_conflict u p H = is_author u p H || is_conflict_on u p H
 
--- she is on the committee, and it is bidding or later
+-- the user is on the committee, and the phase is bidding or later
 abbrev pub serves : Option ℕ → History → Bool
 serves u H = is_on_committee (role_of u H) && is_past_submission (phase_of H)
 
--- she serves, and is in no conflict with the paper
+-- the user serves, and is in no conflict with the paper
 abbrev pub is_eligible : Option ℕ → ℕ → History → Bool
 is_eligible u p H = serves u H && not (has_conflict u p H)
 
--- she isn't on the committee, and is invited to the paper: she is an external of it
+-- the user is an external of the paper: invited to it, and not on the committee
 abbrev pub visits : Option ℕ → ℕ → History → Bool
 visits u p H = not (is_on_committee (role_of u H)) && is_invited u p H
 
--- and is in no conflict with it, and it is bidding or later
+-- the user is an external of the paper and in no conflict with it, and the phase is bidding or later
 abbrev pub reads_visiting : Option ℕ → ℕ → History → Bool
 reads_visiting u p H = visits u p H && not (has_conflict u p H) && is_past_submission (phase_of H)
 
--- the paper is before her, to review or to discuss: she is eligible for it, or reads it as an external
+-- the user reads the paper, to review or to discuss it: is eligible for it, or reads it as an external
 abbrev pub has_before_her : Option ℕ → ℕ → History → Bool
 has_before_her u p H = is_eligible u p H || reads_visiting u p H
 
--- she is eligible for the paper, and is a chair
+-- the user is eligible for the paper, and is a chair
 abbrev pub oversees : Option ℕ → ℕ → History → Bool
 oversees u p H = is_eligible u p H && chairs_committee (role_of u H)
 
--- she is a chair in no conflict with the paper, in whatever phase
+-- the user is a chair in no conflict with the paper, in any phase
 abbrev pub administers : Option ℕ → ℕ → History → Bool
 administers u p H = chairs_committee (role_of u H) && not (has_conflict u p H)
 
--- she is eligible for the paper, and it is the discussion or later
+-- the user is eligible for the paper, and the phase is the discussion or later
 abbrev pub discusses : Option ℕ → ℕ → History → Bool
 discusses u p H = is_eligible u p H && is_past_reviewing (phase_of H)
 
--- she wrote the paper and is named its reviewers: in the open mode, from the notification on
+-- the user wrote the paper and is named its reviewers: in the open mode, from the notification on
 abbrev pub is_answered : Option ℕ → ℕ → History → Bool
 is_answered u p H = is_author u p H && names_reviewers (mode_of H) && is_past_discussion (phase_of H)
 
--- she wrote the paper, and may respond to its reviews, or might have: from the response on
+-- the user wrote the paper, and may respond to its reviews, or might have: from the response on
 abbrev pub is_author_since_response : Option ℕ → ℕ → History → Bool
 is_author_since_response u p H = is_author u p H && is_response_or_later (phase_of H)
 
--- she wrote the paper, and learns what became of it: from the notification on
+-- the user wrote the paper, and learns what became of it: from the notification on
 abbrev pub is_notified : Option ℕ → ℕ → History → Bool
 is_notified u p H = is_author u p H && is_past_discussion (phase_of H)
 
@@ -148,7 +148,7 @@ takes (Some Reject) = false
 abbrev pub is_in_programme : ℕ → History → Bool
 is_in_programme p H = takes (decision_of p H) && not (is_withdrawn p H) && is_past_discussion (phase_of H)
 
--- and it appears, for everyone to read: once the conference is closed
+-- the paper is in the programme and published, for everyone to read: once the conference is closed
 abbrev pub appears : ℕ → History → Bool
 appears p H = is_in_programme p H && is_over (phase_of H)
 
@@ -200,8 +200,8 @@ abbrev pub begins_discussion : Entry → Bool
 begins_discussion (PhaseSet phase) = is_discussion phase
 begins_discussion _ = false
 
--- a form that stands there is one of those that the committee discusses: it was written when the discussion had begun,
--- or no later one of its label was before that
+-- a form between these entries is one of those that the committee discusses: it was written when the discussion had
+-- begun, or no later one of its label was written before that
 abbrev pub is_discussed : ℕ → ℕ → History → History → Bool
 is_discussed p o before later =
     list_any (λ (e : Stamped). begins_discussion e.entry) before
@@ -216,31 +216,31 @@ abbrev pub begins_response : Entry → Bool
 begins_response (PhaseSet phase) = is_response phase
 begins_response _ = false
 
--- a form that stands there is the one to which authors respond: the response begins behind it, and no later form of its
--- label was written before that
+-- a form between these entries is the one to which authors respond: the response begins after it, and no later form
+-- of its label was written before that
 abbrev pub is_responded_to : ℕ → ℕ → History → History → Bool
 is_responded_to p o before later =
     not (list_any (λ (e : Stamped). begins_response e.entry) before)
     && list_any (λ (e : Stamped). begins_response e.entry) later
     && not (is_reviewed p o (until (λ (e : Stamped). begins_response e.entry) later))
 
--- she reads all of the form: she wrote it, or discusses it
+-- the user reads all of the form: wrote it, or discusses it
 abbrev pub reads_form : Option ℕ → History → History → History → ℕ → ℕ → ℕ → Bool
 reads_form u H before later maker paper ordinal =
     is_number u maker || (discusses u paper H && is_discussed paper ordinal before later)
 
--- she reads of the form what is for authors: it is the one of its label to which they respond, and it is the response
--- or later; or it is the label's last, and she is notified
+-- the user reads of the form what is for authors: it is the one of its label to which they respond, and the phase is
+-- the response or later; or it is the label's last, and the user is notified
 abbrev pub learns_form : Option ℕ → History → History → History → ℕ → ℕ → Bool
 learns_form u H before later paper ordinal =
     (is_author_since_response u paper H && is_responded_to paper ordinal before later)
     || (is_notified u paper H && not (is_reviewed paper ordinal later))
 
--- she is told that there is a form under the label: it is the first, and she administers the paper
+-- the user is told that there is a form under the label: it is the first, and the user administers the paper
 abbrev pub counts_form : Option ℕ → History → History → ℕ → ℕ → Bool
 counts_form u H before paper ordinal = administers u paper H && not (is_reviewed paper ordinal before)
 
--- a tag is the committee's where no `~` stands first, the chairs' where two do, and else its setter's
+-- a tag is the committee's if it begins with no `~`, the chairs' if it begins with two, and else its setter's
 abbrev pub is_committees : List ℕ → Bool
 is_committees [] = true
 is_committees (a ∷ tag) = not (a == 126)
@@ -252,16 +252,15 @@ is_chairs _ = false
 abbrev pub is_setters : List ℕ → Bool
 is_setters tag = not (is_committees tag) && not (is_chairs tag)
 
--- the tag is one that she reads: the committee's, where she is eligible for the paper; the chairs', where she oversees
--- it
+-- the user reads the tag: the committee's, if eligible for the paper; the chairs', if overseeing it
 abbrev pub reads_tag : Option ℕ → History → ℕ → List ℕ → Bool
 reads_tag u H paper tag = (is_committees tag && is_eligible u paper H) || (is_chairs tag && oversees u paper H)
 
--- she reads the decision on a paper: she made it, or discusses the paper
+-- the user reads the decision on a paper: made it, or discusses the paper
 abbrev pub reads_decision : Option ℕ → History → ℕ → ℕ → Bool
 reads_decision u H maker paper = is_number u maker || discusses u paper H
 
--- she learns what became of her own paper: by the last decision, where she is notified
+-- the user learns what became of their own paper: by the last decision, if notified
 abbrev pub learns_outcome : Option ℕ → History → History → ℕ → Bool
 learns_outcome u H later paper = not (is_decided_again paper later) && is_notified u paper H
 
@@ -269,12 +268,12 @@ learns_outcome u H later paper = not (is_decided_again paper later) && is_notifi
 abbrev pub is_announced : History → History → ℕ → Bool
 is_announced H later paper = not (is_decided_again paper later) && is_in_programme paper H
 
--- she made the entry, or is an author of its paper
+-- the user made the entry, or is an author of its paper
 abbrev pub owns : Option ℕ → History → ℕ → ℕ → Bool
 owns u H maker paper = is_number u maker || is_author u paper H
 
--- she is told all of an assignment, and of an invitation, in every phase: she is assigned or invited, made the entry,
--- or administers the paper
+-- the user is told all of an assignment, and of an invitation, in every phase: is assigned or invited, made the
+-- entry, or administers the paper
 abbrev pub is_party : Option ℕ → History → ℕ → ℕ → ℕ → Bool
 is_party u H maker paper user = is_number u user || is_number u maker || administers u paper H
 
@@ -334,27 +333,27 @@ is_told u H before later maker (Responded paper text) = owns u H maker paper || 
 
 -- ---- the parts of an entry that she is told of
 
--- what a part is for a user at the end of a history: of an entry that stands behind these
--- and before those, under this stamp
+-- what a part is for a user at the end of a history: of an entry between these earlier and those later ones, under
+-- this stamp
 abbrev pub PartFor : Type 0 → Type 0
 PartFor A = Option ℕ → History → History → History → Stamp → Entry → A
 
--- the part, where she may know it
+-- the part, if the user may know it
 abbrev pub where_known : {A : Type 0} → Bool → A → Option A
 where_known known x = if known then Some x else None
 
--- the kind, and whether it is her own: always
+-- the kind, and whether the entry is the user's own: always
 abbrev pub kind_for : PartFor EntryKind
 kind_for u H before later stamp e = kind_of e
 
 abbrev pub mark_for : PartFor Bool
 mark_for u H before later stamp e = is_number u stamp.maker
 
--- when: to whoever made it
+-- the time: to the user who made the entry
 abbrev pub moment_for : PartFor (Option ℕ)
 moment_for u H before later stamp e = where_known (is_number u stamp.maker) stamp.at
 
--- by which number, and of which request, where there is one: to whoever made it
+-- the number, if there is one, and the digest of the request: to the user who made the entry
 abbrev pub key_for : PartFor (Option (Option RetryKey))
 key_for u H before later stamp e = where_known (is_number u stamp.maker) stamp.key
 
@@ -404,7 +403,7 @@ abbrev pub name_for : PartFor (Option (List ℕ))
 name_for u H before later stamp (Registered user name digest) = Some name
 name_for u H before later stamp _ = None
 
--- the digest of a secret: to whoever made the registration
+-- the digest of a secret: to the user who made the registration
 abbrev pub digest_for : PartFor (Option (List ℕ))
 digest_for u H before later stamp (Registered user name digest) = where_known (is_number u stamp.maker) digest
 digest_for u H before later stamp _ = None
@@ -575,7 +574,7 @@ accepted_for u H before later stamp _ = None
 
 -- ---- all entries
 
--- the part of each entry that she is told of, in order, where these stand before them; H is the whole history
+-- the part of each entry of which the user is told, in order; those before them are given, and H is the whole history
 abbrev pub each_told : {A : Type 0} → Option ℕ → History → (History → History → Stamp → Entry → A)
     → History → History → List A
 each_told u H part before [] = []

@@ -35,19 +35,20 @@ use Rattle.cr_bounds.specs.ShownTo.{n_for, text_for, tag_for, decision_for, outc
 abbrev pub Shows : {A : Type 0} → (Sighting → A) → PartFor A → Type 0
 Shows seen part = (u : Option ℕ) (H : History) → map seen (view u H) ≡ each_told u H (part u H) [] H
 
--- there is one sighting of each entry that she is told of, and it tells the kind
+-- a view has one line for each entry of which the user is told, and it tells the kind
 abbrev pub EntriesShown : Type 0
 EntriesShown = Shows (λ (s : Sighting). s.kind) kind_for
 
--- her own entries are marked
+-- the user's own entries are marked, and no others
 abbrev pub MarksShown : Type 0
 MarksShown = Shows (λ (s : Sighting). s.mine) mark_for
 
--- and of these alone she is shown the moment of the request
+-- the time of the request is shown of the user's own entries, and of no others
 abbrev pub MomentsShown : Type 0
 MomentsShown = Shows (λ (s : Sighting). s.at) moment_for
 
--- and of these alone the number of the command and the mark of its request, or that it has none
+-- the number of the command and the digest of its request, or that it has no number, are shown of the user's own
+-- entries, and of no others
 abbrev pub KeysShown : Type 0
 KeysShown = Shows (λ (s : Sighting). s.key) key_for
 
@@ -143,31 +144,31 @@ AcceptedShown = Shows (λ (s : Sighting). s.accepted) accepted_for
 
 -- ---- bids, and who reviews
 
--- the sighting is on the paper, of an entry that assigns or unassigns another than the reader, and isn't her own
+-- what the entry shows is on the paper, assigns or unassigns another than the reader, and isn't the reader's own
 abbrev pub is_of_other : Option ℕ → ℕ → Sighting → Bool
 is_of_other u p s =
     (is_kind kinds.Assigned s || is_kind kinds.Unassigned s) && is_number s.paper p && not (s.mine || is_user u s.user)
 
--- of the bids on a paper who doesn't oversee it is shown none but her own
+-- a user who doesn't oversee the paper is shown no bid on it but their own
 abbrev pub BidsAreOwn : Type 0
 BidsAreOwn =
     (u : Option ℕ) (p : ℕ) (H : History) → IsFalse (oversees u p H)
     → All (λ (s : Sighting). IsTrue (is_kind kinds.Bid s && is_number s.paper p) → IsTrue s.mine) (view u H)
 
--- of who reviews a paper its authors are shown nothing, but in the open mode from the notification on
+-- a paper's authors are shown nothing of who reviews it, except in the open mode from the notification on
 abbrev pub ReviewersFromAuthors : Type 0
 ReviewersFromAuthors =
     (u : Option ℕ) (p : ℕ) (H : History) → IsTrue (is_author u p H)
     → IsFalse (names_reviewers (mode_of H) && is_past_discussion (phase_of H))
     → All (λ (s : Sighting). IsFalse (is_of_other u p s)) (view u H)
 
--- nor is anybody before the discussion, but chairs in no conflict with the paper
+-- before the discussion only chairs in no conflict with the paper are shown who reviews it
 abbrev pub ReviewersEarly : Type 0
 ReviewersEarly =
     (u : Option ℕ) (p : ℕ) (H : History) → IsFalse (administers u p H) → IsFalse (is_past_reviewing (phase_of H))
     → All (λ (s : Sighting). IsFalse (is_of_other u p s)) (view u H)
 
--- and in the anonymous mode nobody but such a chair is ever shown who it is
+-- in the anonymous mode only a chair in no conflict with the paper is ever shown who reviews it
 abbrev pub ReviewersUnnamed : Type 0
 ReviewersUnnamed =
     (u : Option ℕ) (p : ℕ) (H : History) → IsFalse (administers u p H) → IsTrue (hides_reviewers (mode_of H))
@@ -189,20 +190,21 @@ FormsEarly =
     → s ≡ record (blank kinds.Reviewed) { paper = s.paper; ordinal = s.ordinal; done = s.done })
     (view u H)
 
--- of the forms on a paper its authors are shown nothing before the notification, but where the response was opened, and
--- then from the response on; and what is for the committee never
+-- authors may learn of others' forms on their papers: from the notification on, or from the response on if it was
+-- opened
 abbrev pub may_learn_forms : History → Bool
 may_learn_forms H =
     is_past_discussion (phase_of H)
     || (is_response_or_later (phase_of H) && list_any (λ (e : Stamped). begins_response e.entry) H)
 
+-- a paper's authors are shown others' forms on it only then, and never what is for the committee
 abbrev pub FormsFromAuthors : Type 0
 FormsFromAuthors =
     (u : Option ℕ) (p : ℕ) (H : History) → IsTrue (is_author u p H)
     → All (λ (s : Sighting). IsTrue (is_others kinds.Reviewed p s)
     → IsTrue (may_learn_forms H) × (s.to_pc ≡ None)) (view u H)
 
--- of the comments on a paper, and of its tags, they are shown none
+-- a paper's authors are shown none of the comments on it, and none of its tags
 abbrev pub CommentsFromAuthors : Type 0
 CommentsFromAuthors =
     (u : Option ℕ) (p : ℕ) (H : History) → IsTrue (is_author u p H)
@@ -214,8 +216,8 @@ WritersUnnamed =
     (u : Option ℕ) (p : ℕ) (H : History) → IsFalse (administers u p H) → IsTrue (hides_reviewers (mode_of H))
     → All (λ (s : Sighting). IsTrue (is_kind kinds.Commented s && is_number s.paper p) → s.by ≡ None) (view u H)
 
--- of a response nobody but the paper's authors, and from the discussion on those who discuss the paper, is shown that
--- it is there; and who of its authors wrote it nobody is
+-- only the paper's authors and, from the discussion on, those who discuss the paper are shown that there is a
+-- response; no user is shown which author wrote it
 abbrev pub ResponsesShown : Type 0
 ResponsesShown =
     (u : Option ℕ) (p : ℕ) (H : History)
@@ -262,8 +264,8 @@ DecisionsUntold =
 abbrev pub part_shown : {A : Type 0} → (Sighting → Option A) → ℕ → Sighting → List A
 part_shown part p s = only (is_number s.paper p && not s.mine) (listed (part s))
 
--- of a paper's titles that they didn't give it themselves, others than its authors are shown one at most, and of its
--- abstracts and its contents too
+-- of the titles that others gave a paper, a user who isn't its author is shown at most one; so of its abstracts and
+-- its contents
 abbrev pub OneTitle : Type 0
 OneTitle =
     (u : Option ℕ) (p : ℕ) (H : History) → IsFalse (is_author u p H)
@@ -279,7 +281,7 @@ OneContent =
     (u : Option ℕ) (p : ℕ) (H : History) → IsFalse (is_author u p H)
     → length (flat_map (part_shown (λ (s : Sighting). s.content) p) (view u H)) ≤ 1
 
--- and of the decisions on a paper that she didn't make herself who doesn't discuss it is shown one at most
+-- of the decisions that others made on a paper, a user who doesn't discuss it is shown at most one
 abbrev pub OneDecision : Type 0
 OneDecision =
     (u : Option ℕ) (p : ℕ) (H : History) → IsFalse (discusses u p H)
@@ -287,15 +289,15 @@ OneDecision =
 
 -- ---- who neither wrote a paper, nor is eligible for it, nor reads it as an external
 
--- what lets one know more of a paper who neither wrote it, nor is eligible for it, nor reads it as an external:
--- whether she serves, whether she administers the paper, whether it is in the programme, and whether it appears
+-- what lets a user know more of a paper who neither wrote it, nor is eligible for it, nor reads it as an external:
+-- whether they serve, whether they administer the paper, whether it is in the programme, and whether it is published
 pub record Outsider : Type 0 where
   pub serving : Bool
   pub administering : Bool
   pub announced : Bool
   pub appearing : Bool
 
--- a sighting of this kind with its paper alone, and where it is hers that, its moment and its number
+-- what this kind of entry shows with only its paper; of the reader's own also that it is, its time and its number
 abbrev pub as_hers : EntryKind → Sighting → Sighting
 as_hers kind s =
     record (blank kind) {
@@ -380,7 +382,7 @@ IsLeft u is kinds.Decided s =
       accepted = if is.announced then s.accepted else None;
     })
 
--- what she is to the paper
+-- what the user is to the paper, as an outsider
 abbrev pub outsider : Option ℕ → ℕ → History → Outsider
 outsider u p H = record {
   serving = serves u H;
@@ -398,7 +400,7 @@ OutsidersShown =
 
 -- ---- externals
 
--- what lets an external know more of a paper that she reads: whether the mode names its authors, and whether it is in
+-- what lets an external know more of a paper that they read: whether the mode names its authors, and whether it is in
 -- the programme
 pub record Visit : Type 0 where
   pub naming : Bool
@@ -489,7 +491,7 @@ IsPublic announced appearing kinds.Decided s =
 abbrev pub IsPublicIn : History → Sighting → Type 0
 IsPublicIn H s = IsPublic (at_some (λ p. is_in_programme p H) s.paper) (at_some (λ p. appears p H) s.paper) s.kind s
 
--- the entry is on a paper, and names her
+-- the entry is on a paper, and names the user
 abbrev pub names_her : Option ℕ → Entry → Bool
 names_her u (Coauthor paper user) = is_number u user
 names_her u (Conflict paper user on) = is_number u user
@@ -509,8 +511,8 @@ is_reviewing (Uninvited paper user) = true
 is_reviewing (Reviewed paper ordinal version form) = true
 is_reviewing _ = false
 
--- she wrote nothing, doesn't serve, no entry on a paper names her, and she is no chair where
--- somebody was assigned or invited, or has reviewed
+-- the user wrote nothing, doesn't serve, no entry on a paper names them, and they are no chair where somebody was
+-- assigned or invited, or has reviewed
 pub record IsStranger (u : Option ℕ) (H : History) : Type 0 where
   pub author : (p : ℕ) → IsFalse (is_author u p H)
   pub serving : IsFalse (serves u H)

@@ -24,7 +24,7 @@ ghost use Rattle.cr_bounds.specs.ViewBounds.{AccountsShown, StrangersShown, Nobo
 ghost use Rattle.cr_bounds.specs.ResponseBounds.{ReviewsAwaited, ReviewsForAuthors, OneReview, ReviewsBehindUnseen};
 ghost use Rattle.cr_bounds.specs.ResponseBounds.{UnheardForms, LaterForms};
 
-/// What a view shows, no more and no less.
+/// Bounds what a view shows, from both sides.
 ///
 /// The clauses up to `accepted` go part by part: a view has one line for each entry of which the user is told, and of
 /// each part exactly what `ShownTo` gives them, by the paper's authors, the committee, declared conflicts, phase and
@@ -91,13 +91,13 @@ pub fn law_bounds()
     ensures nobody { NobodyShown }
 {}
 
-/// What a paper's authors are shown of others' reviews before the notification.
+/// Bounds what a paper's authors are shown of others' reviews before the notification.
 ///
 /// - `awaited`: nothing until a response is opened.
 /// - `for_authors`, `one`, `behind`: then of each label at most one form, with only label, score, confidence and the
 ///   text to authors; none that was written after the response was opened.
-/// - `unheard`, `later`: they see the same whatever is in others' forms on their papers, except the last of each label
-///   before the response; and with and without a form written after it was opened.
+/// - `unheard`, `later`: they see the same whatever is in others' forms on their papers, except the last of each
+///   label before the response; and with and without a form written after it was opened.
 ///
 /// *Scope:* every history, in every mode.
 pub fn law_response_bound()

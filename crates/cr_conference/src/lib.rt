@@ -32,13 +32,13 @@ ghost use Rattle.cr_conference.specs.HiddenPairs.{EarlyReviewerHidden, LateFormH
 ghost use Rattle.cr_conference.specs.HiddenPairs.{ResponseHiddenFromAccounts, ResponderHidden};
 ghost use Rattle.cr_conference.specs.FirstTold.{FirstTold};
 
-/// All that each kind of reader sees of a small conference, entry by entry. The readers are an unauthenticated caller,
-/// an account, an external who reviews and was a member once, an author, a co-author, an unconflicted member, one who
-/// reviews, a chair who does, and a conflicted member and chair. It has three papers and every kind of entry except a
-/// response. The views are those in each mode: before the bidding, in it, in the reviewing, in the discussion, at the
-/// notification and at the close. One paper is rejected first and then accepted, one is rejected, one is withdrawn.
-/// With the two decisions the other way round, the views of those outside the committee at the close are there too
-/// (`reversed`). One submission has a number, which only its actor is shown.
+/// Lists all that each kind of reader sees of a small conference, entry by entry. The readers are an unauthenticated
+/// caller, an account, an external who reviews and was a member once, an author, a co-author, an unconflicted member,
+/// one who reviews, a chair who does, and a conflicted member and chair. It has three papers and every kind of entry
+/// except a response. The views are those in each mode: before the bidding, in it, in the reviewing, in the
+/// discussion, at the notification and at the close. One paper is rejected first and then accepted, one is rejected,
+/// one is withdrawn. With the two decisions the other way round, the views of those outside the committee at the
+/// close are there too (`reversed`). One submission has a number, which only its actor is shown.
 ///
 /// - `twins`: with another member as the reviewer and the forms' author, the paper's authors see the same up to the
 ///   discussion, and later except in the open mode. A conflicted member and chair see the same in all phases.
@@ -70,17 +70,17 @@ pub fn law_views()
     ensures verdicts { VerdictsHidden }
 {}
 
-/// Which rule a refusal names, if several are broken. For each two neighbouring rules of a command's, a query's or a
-/// bulk's list, a case of the small conference or of its twins breaks both, and the first is named. All these
+/// Says which rule a refusal names, if several are broken. For each two neighbouring rules of a command's, a query's
+/// or a bulk's list, a case of the small conference or of its twins breaks both, and the first is named. All these
 /// histories are legal. There is no case of what the conference is too small for (9,999 accounts or papers, 26 labels
 /// of one paper, 1,000 comments, a plan that is too large), nor of two rules that can't be broken at once.
 pub fn law_first_told()
     ensures { FirstTold }
 {}
 
-/// For each kind of entry, and each part of it that is hidden from some user, two legal histories that differ in that
-/// part. They meet the conditions of `law_hidden_payload` of cr_policy for one user, who sees the same of both, while
-/// another user doesn't. Timestamps and numbers are tried once for all kinds, and a co-author's entry is its
+/// Has for each kind of entry, and each part of it that is hidden from some user, two legal histories that differ in
+/// that part. They meet the conditions of `law_hidden_payload` of cr_policy for one user, who sees the same of both,
+/// while another user doesn't. Timestamps and numbers are tried once for all kinds, and a co-author's entry is its
 /// submitter's. What a new member's role is, and which phase, mode or deadline is set, everyone is shown.
 ///
 /// Pairs that differ in a value only: `digests`, `titles`, `abstracts`, `revisions`, `contents`, `bids`, `seats`,

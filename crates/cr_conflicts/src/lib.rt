@@ -2,14 +2,8 @@
 //!
 //! # Proved
 //!
-//! With [what every table proves](../../cr_rooms/src/lib.rt):
-//!
-//! - A paper's authors (the submitter first), conflicts, conflicts that authors declared, and a user's papers by
-//!   number are exact: `Ties::authors`, `is_author`, `is_conflicted`, `is_declared`, `conflicts`, `declared`,
-//!   `authored`, `conflicting`, `papers`.
-//! - Bids, by user number, are exact: `Ties::bid_of`, `bids`.
-//! - `is_declared` and `bid_of` take at most the steps of a binary search in the paper's records. `is_conflicted`
-//!   takes at most one for each author and conflict, a user's papers one each: `steps`.
+//! - [What every table proves](../../cr_rooms/src/lib.rt), of authors, conflicts, conflicts that authors declared, and
+//!   bids. `is_declared` and `bid_of` take at most the steps of a binary search: `steps`.
 #![tactic(auto)]
 
 mod earlier;

@@ -39,7 +39,7 @@ pub struct Ties {
     // Papers and their authors, in the order in which they were told, the submitter first, so the index of an
     // author among them needn't be kept.
     authors: Files<Tie<()>>,
-    // The same, by user.
+    // The conflicts, by user.
     authored: PairRows<()>,
     // Papers, and the users declared in conflict with them.
     conflicts: IndexedPairs<()>,
@@ -305,7 +305,7 @@ impl Ties {
         self.conflicts.of_user(user, steps)
     }
 
-    /// Returns the user's last bid on the paper, or `None` if the caller has told none.
+    /// Returns the user's last bid on the paper; `None` if they made none.
     ///
     /// # Cost
     ///

@@ -36,7 +36,7 @@ fn conflict_pair(stamped: &Stamped) -> Option<Pair>
     }
 }
 
-/// Returns the paper and the user who bids on it by the entry, if the caller does.
+/// Returns the paper and the user who bids on it, if the entry is a bid.
 fn bid_pair(stamped: &Stamped) -> Option<Pair>
     ensures { result ≡ bid_pair stamped.now }
 {

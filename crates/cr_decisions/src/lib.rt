@@ -2,9 +2,7 @@
 //!
 //! # Proved
 //!
-//! With [what every table proves](../../cr_rooms/src/lib.rt):
-//!
-//! - A paper's last decision is exact: `Decisions::last`.
+//! - [What every table proves](../../cr_rooms/src/lib.rt), of a paper's last decision.
 #![tactic(auto)]
 
 mod decisions;

@@ -52,7 +52,7 @@ pub record HasCause {T E : Type 0} (before now : ℕ) (result : Result T E) : Ty
   pub failed : OnErr result (Rises before now)
   pub steady : OnOk result (now ≡ before)
 
--- the same of a read
+-- The fault counter never falls; it rose if the read failed, and only then.
 pub record ReadHasCause (before now : ℕ) (result : ReadStep) : Type 0 where
   pub later : before ≤ now
   pub failed : result ≡ reads.Failed → Rises before now

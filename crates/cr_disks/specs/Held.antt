@@ -6,14 +6,14 @@ use Rattle.cr_disks.specs.Past.{Reaches, HadBeen}
 use Rattle.cr_disks.specs.declared.mem_disk.DiskCall.{DiskCall}
 use Rattle.cr_disks.specs.declared.mem_disk.DiskCall.TheVariants as calls
 
--- what a read gives at some moment, what the last sync that succeeded made durable, and the ranges written since,
--- each an offset and a length
+-- a disk at some moment: what a read gives, what the last sync that succeeded made durable, and the ranges written
+-- since, each an offset and a length
 pub record DiskState : Type 0 where
   pub seen : List ℕ
   pub base : List ℕ
   pub ranges : List (ℕ × ℕ)
 
--- these bytes, all of them synced
+-- the state of a disk with these bytes, all of them synced
 abbrev pub settled : List ℕ → DiskState
 settled bytes = record { seen = bytes; base = bytes; ranges = [] }
 
@@ -23,7 +23,7 @@ put_by (calls.Wrote at put len) = put
 put_by calls.Synced = 0
 put_by calls.SyncFailed = 0
 
--- the state behind a call, which put these bytes
+-- the state after a call, which put these bytes
 abbrev pub after_call : DiskCall → List ℕ → DiskState → DiskState
 after_call (calls.Wrote at put len) bytes s = record {
   seen = take at s.seen ++ (bytes ++ drop (at + length bytes) s.seen);
@@ -38,7 +38,7 @@ abbrev pub put_by_all : List DiskCall → ℕ
 put_by_all [] = 0
 put_by_all (call ∷ others) = put_by call + put_by_all others
 
--- the state behind these calls, which put these bytes, one after the other
+-- the state after these calls, which put these bytes, one after the other
 abbrev pub state_after : List DiskCall → List ℕ → DiskState → DiskState
 state_after [] bytes s = s
 state_after (call ∷ others) bytes s =
@@ -77,10 +77,10 @@ past_of disk = states_before disk.calls disk.put (settled disk.first)
 abbrev pub left_since_of : Held → ℕ → List ℕ → Type 0
 left_since_of disk t image = left_in (state_of disk) image ⊎ HadBeen left_in (drop t (past_of disk)) image
 
--- its next write or sync is listed as one that fails
+-- the next write or sync of the disk is listed as one that fails
 abbrev pub fails_next : Held → Bool
 fails_next disk = list_any (λ call. call == length disk.calls - disk.begun) disk.failing
 
--- it has no room for another call, or for so many bytes
+-- the disk has no room for another call, or for so many bytes
 abbrev pub is_full : Held → ℕ → Bool
 is_full disk len = (disk.calls_left == 0) || nat_lt disk.room len

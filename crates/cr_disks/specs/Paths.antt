@@ -1,4 +1,4 @@
--- What stands at each path of disks in memory.
+-- What is at each path of disks in memory.
 use Rattle.std.specs.Prelude.{ℕ, List, [], Bool, cond, is_some, Option, None, Some, String}
 use Rattle.std.specs.Option.{option_map_or}
 use Rattle.std.specs.declared.alloc.Global.{Global}
@@ -11,11 +11,11 @@ use Rattle.cr_disks.specs.Held.{DiskState, Held, left_since_of, settled, state_o
 abbrev pub FilesByPath : Type 0
 FilesByPath = List (String Global × Held)
 
--- the bytes at a path, none where nothing stands
+-- the bytes at a path, none if nothing is there
 abbrev pub bytes_at : FilesByPath → List ℕ → List ℕ
 bytes_at files path = option_map_or (λ disk. disk.bytes) (lookup (is_path path) files) []
 
--- what is there of them and what is synced, no bytes where nothing stands
+-- the state of the disk at a path, with no bytes if nothing is there
 abbrev pub state_at : FilesByPath → List ℕ → DiskState
 state_at files path = option_map_or state_of (lookup (is_path path) files) (settled [])
 

@@ -1,7 +1,7 @@
 -- A disk in memory that keeps no record.
 use Rattle.std.specs.Prelude.{ℕ, List}
 
--- its bytes, for how many more it has room, and the faults that it has counted
+-- a plain disk: its bytes, for how many more it has room, and the faults that it has counted
 pub record PlainHeld : Type 0 where
   pub bytes : List ℕ
   pub room : ℕ

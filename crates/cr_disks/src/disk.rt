@@ -9,28 +9,33 @@ use cr_ports::ReadStep;
 #[derive(Clone, Copy, Debug, PartialEq, Eq)]
 pub struct DiskFailed;
 
-/// Bytes by offset, at most 2^62 of them. A stop of the machine leaves what was synced; of what was written since, any
-/// bytes may stand in its ranges.
+/// Bytes by offset, at most 2^62 of them. A stop leaves what was synced; in the ranges of writes since, it may leave
+/// any bytes.
 pub trait Disk {
-    /// Whether it tells what it holds, and what a stop may leave. What stands below speaks of a disk that does.
+    /// Disks of this type tell what they hold, and what a stop may leave. `seen`, `may_leave`, `moment` and
+    /// `left_since` speak of such a disk.
     ghost tells: { Bool };
 
     /// The bytes that a read gives.
     ghost seen: { Self → List ℕ };
 
-    /// What a stop at this moment may leave.
+    /// The bytes that a stop at this moment may leave.
     ghost may_leave: { Self → List ℕ → Type 0 };
 
-    /// The moment, as a number that doesn't fall.
+    /// The disk's own time, as a number that doesn't fall.
     ghost moment: { Self → ℕ };
 
-    /// What a stop at some moment from that one on might have left, during a call or between two.
+    /// The bytes that a stop may have left at some moment from that one on, during a call or between two.
     ghost left_since: { Self → ℕ → List ℕ → Type 0 };
 
     /// How often a call has failed.
     ghost faults: { Self → ℕ };
 
-    /// How many bytes there are. Changes nothing.
+    /// Returns how many bytes there are, at most 2^62. The bytes, and what a stop may leave, stay.
+    ///
+    /// # Errors
+    ///
+    /// The fault counter rose. Otherwise it is unchanged.
     fn len(&mut self) -> Result<u64, DiskFailed>
         ensures range { IfOk result (λ n. n ≤ 2 ^ 62) }
         ensures told { IsTrue tells → IfOk result (λ n. n ≡ length (seen self.old)) }
@@ -38,8 +43,12 @@ pub trait Disk {
         ensures crash { IsTrue tells → (image : List ℕ) → may_leave self.new image → may_leave self.old image }
         ensures cause { HasCause (faults self.old) (faults self.new) result };
 
-    /// Reads bytes from `at` on into the front of `buf`, which isn't empty. `End` comes exactly where nothing stands at
-    /// `at` or behind it. Changes nothing.
+    /// Reads bytes from `at` on into the front of `buf`, which isn't empty. `End` if and only if there is no byte at
+    /// `at` or after it. The bytes, and what a stop may leave, stay.
+    ///
+    /// # Errors
+    ///
+    /// `Failed`: the fault counter rose. Otherwise it is unchanged.
     fn read_at(&mut self, at: u64, buf: &mut [u8]) -> ReadStep
         requires { 0 < length buf.old }
         ensures size { FillsWithin result (length buf.old) }
@@ -48,8 +57,13 @@ pub trait Disk {
         ensures crash { IsTrue tells → (image : List ℕ) → may_leave self.new image → may_leave self.old image }
         ensures cause { ReadHasCause (faults self.old) (faults self.new) result };
 
-    /// Writes over what stands at `at` and behind it, and past the end. A write past 2^62 bytes fails. After one that
-    /// failed any bytes may stand in its range. Until a sync succeeds a stop may leave any bytes there as well.
+    /// Writes a piece over the bytes from `at` on, and past the end. Until a sync succeeds, a stop may leave any
+    /// bytes in its range.
+    ///
+    /// # Errors
+    ///
+    /// A write past 2^62 bytes fails; any other may. The fault counter rose, and the piece's range may hold any
+    /// bytes. Otherwise the counter is unchanged.
     fn write_at(&mut self, at: u64, piece: &[u8]) -> Result<(), DiskFailed>
         requires { IsTrue tells → at ≤ length (seen self.old) }
         ensures within { OnOk result (at + length piece.now ≤ 2 ^ 62) }
@@ -60,7 +74,12 @@ pub trait Disk {
             (left_since self.old) (left_since self.new) (may_leave self.new) }
         ensures cause { HasCause (faults self.old) (faults self.new) result };
 
-    /// Makes what was written last. Once it has succeeded a stop leaves what a read gives.
+    /// Syncs what was written: once it has succeeded, a stop leaves what a read gives.
+    ///
+    /// # Errors
+    ///
+    /// The fault counter rose. A stop may leave what it could leave before, or what a read gives. Otherwise the
+    /// counter is unchanged.
     fn sync(&mut self) -> Result<(), DiskFailed>
         ensures durable { IsTrue tells → OnOk result (Only (seen self.old) (may_leave self.new)) }
         ensures seen { IsTrue tells → seen self.new ≡ seen self.old }
@@ -70,14 +89,14 @@ pub trait Disk {
             (left_since self.old) (left_since self.new) (may_leave self.new) }
         ensures cause { HasCause (faults self.old) (faults self.new) result };
 
-    /// A law: what a read gives is among what a stop may leave.
+    /// Proves that what a read gives is among what a stop may leave.
     fn law_may_leave_seen(&self)
         ensures { IsTrue tells → may_leave self.now (seen self.now) };
 
-    /// This moment is one of those since an earlier one.
+    /// What a stop may leave at this moment, it may have left since each earlier moment.
     ghost counts_now: { (disk : Self) (t : ℕ) (image : List ℕ)
         → t ≤ moment disk → may_leave disk image → left_since disk t image };
 
-    /// Since this moment there is no other.
+    /// What a stop may have left since this moment, it may leave at it.
     ghost only_now: { (disk : Self) (image : List ℕ) → left_since disk (moment disk) image → may_leave disk image };
 }

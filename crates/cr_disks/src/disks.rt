@@ -9,35 +9,38 @@ use cr_ports::KeeperError;
 
 /// Opens a disk over the bytes at a path, and takes it back.
 ///
-/// From an opening on, a sync that succeeds does what `Disk` says, whatever befell the file before: a stop then leaves
-/// what a read gives, also where a sync failed ahead of the opening. So an opening takes nothing for synced: until a
-/// sync a stop may leave all that it might have left before. And what it shows has to be what a sync makes last, where a
-/// system goes on showing what a failed sync lost.
+/// After an opening, a sync that succeeds does what `Disk` says, whatever happened to the file before: a stop then
+/// leaves what a read gives, even if a sync failed before the opening. So an opening takes nothing as synced: until a
+/// sync, a stop may leave all that it might have left before. A system that goes on showing what a failed sync lost
+/// must not show that at an opening: what the disk shows has to be what a sync makes last.
 pub trait Disks {
     /// What it opens. It may go to another thread.
     type Disk: Disk + Drop + Send;
 
-    /// The bytes at each path, none where nothing stands, where its disks tell theirs; those that are written stand
-    /// there once the disk was shut.
+    /// The bytes at each path, none if nothing is there, if its disks tell theirs. Those that are written are there
+    /// once the disk was shut.
     ghost files: { Self → List ℕ → List ℕ };
 
-    /// What a stop may leave at each path at which no disk is open.
+    /// The bytes that a stop may leave at each path at which no disk is open.
     ghost may_leave: { Self → List ℕ → List ℕ → Type 0 };
 
-    /// Of which paths a disk may be taken back.
+    /// A disk may be taken back at this path.
     ghost has_opened: { Self → List ℕ → Type 0 };
 
-    /// What a stop at some moment of the disk that was last shut at a path, from that moment on, might have left of it.
+    /// The bytes that a stop may have left of the disk that was last shut at a path, at some moment of it from that
+    /// one on.
     ghost left: { Self → List ℕ → ℕ → List ℕ → Type 0 };
 
-    /// How often a call, or one of a disk that was shut, has failed.
+    /// How often a call of these has failed, or one of a disk that was shut.
     ghost faults: { Self → ℕ };
 
-    /// A disk over the bytes at the path, which has counted no fault. A stop may leave of it what it might have left
-    /// before.
+    /// Opens a disk over the bytes at the path, which has counted no fault. A stop may leave of it what it might have
+    /// left before.
     ///
-    /// `Failed` comes only where the count of faults rose, or stands at its last value, and `OutOfMemory` only where it
-    /// is as it was.
+    /// # Errors
+    ///
+    /// - `Failed`: the fault counter rose.
+    /// - `OutOfMemory`: memory ran out. The fault counter is unchanged.
     fn open(&mut self, path: &str) -> Result<Self::Disk, KeeperError>
         ensures found { IsTrue Self.Disk.tells → IfOk result (λ disk. Self.Disk.seen disk ≡ files self.old path.now) }
         ensures stops { IsTrue Self.Disk.tells → IfOk result (λ disk. (image : List ℕ)
@@ -49,8 +52,8 @@ pub trait Disks {
             → may_leave self.new other image ↔ may_leave self.old other image }
         ensures cause { HasCause (faults self.old) (faults self.new) result };
 
-    /// Takes back a disk that was opened at this path: its bytes then stand there. The count of faults rises by at
-    /// least the disk's. Takes no memory.
+    /// Takes back a disk that was opened at this path; its bytes are then there. The fault counter rises by at least
+    /// the disk's, up to its maximum. Takes no memory.
     fn shut(&mut self, path: &str, disk: Self::Disk)
         requires { has_opened self.old path.now }
         ensures kept { IsTrue Self.Disk.tells
@@ -63,9 +66,9 @@ pub trait Disks {
             → may_leave self.new other image ↔ may_leave self.old other image }
         ensures count { Gains (faults self.old) (Self.Disk.faults disk) (faults self.new) };
 
-    /// Takes back a disk that was opened at this path, and takes its bytes away, so that none stand there. Answers
-    /// whether that could be done; where it couldn't, they stand there. A stop may leave none, or what it might have
-    /// left of the disk. The count of faults rises by at least the disk's. Takes no memory.
+    /// Takes back a disk that was opened at this path, takes its bytes away, and returns whether that could be done.
+    /// If it couldn't, they are at the path. A stop may leave no bytes there, or what it might have left of the disk.
+    /// The fault counter rises by at least the disk's, up to its maximum. Takes no memory.
     fn discard(&mut self, path: &str, disk: Self::Disk) -> bool
         requires { has_opened self.old path.now }
         ensures gone { IsTrue Self.Disk.tells → IsTrue result

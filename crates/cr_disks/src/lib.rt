@@ -4,19 +4,15 @@
 //! # Proved
 //!
 //! - A disk in memory meets the crash model of `Disk`: until a sync succeeds, the ranges of writes since may hold any
-//!   bytes. The file may end anywhere between its old end and theirs: `MemDisk`.
-//! - What a read gives is among what a stop may leave: `law_may_leave_seen`.
+//!   bytes. The file may end anywhere between its old end and theirs: `MemDisk`. What a read gives is among what a
+//!   stop may leave: `law_may_leave_seen`.
 //! - `MemDisks` opens such a disk over the bytes at a path. One that is shut leaves its bytes there, and every other
 //!   path unchanged: `open` (`found`), `shut` (`kept`).
-//! - After an opening, a sync that succeeds leaves only what a read gives, whatever befell the file before:
-//!   `Disk::sync` (`durable`), of `Disks`.
-//! - So an opening takes nothing as synced. Of an opened disk a stop may leave what it might have left at the path,
-//!   and no more. Of the path it may leave what it might have left of the disk shut there: `open` (`stops`), `shut`
-//!   (`still`, `others`).
-//! - A discarded disk leaves no bytes at its path, or says that they stayed; in memory they never do: `discard`
-//!   (`gone`, `kept`, `can`).
-//! - `PlainDisk` keeps no record, only what its calls do to its bytes: `write_at` (`puts`, `fails`, `stays`),
-//!   `read_at` (`gives`), `len` (`many`), `sync` (`done`).
+//! - An opening takes nothing as synced: of the disk a stop may leave what it might have left at the path, and no
+//!   more: `open` (`stops`), `shut` (`still`, `others`). After that a sync that succeeds leaves only what a read
+//!   gives: `Disk::sync` (`durable`), of `Disks`.
+//! - A discarded disk leaves no bytes at its path, or says that they stayed: `discard` (`gone`, `kept`, `can`).
+//! - `PlainDisk` keeps no record, only what its calls do to its bytes.
 #![tactic(auto)]
 
 mod disk;

@@ -16,7 +16,7 @@ use std::marker::Model;
 /// A call of a disk in memory that might have changed what a stop leaves.
 #[derive(Clone, Copy, Debug, PartialEq, Eq)]
 pub enum DiskCall {
-    /// A write at an offset, which put so many of its bytes there, and was so long. Where it put fewer, it failed.
+    /// A write of `len` bytes at an offset, which put `put` of them there. If it put fewer than all, it failed.
     Wrote {
         /// The offset.
         at: u64,
@@ -31,12 +31,14 @@ pub enum DiskCall {
     SyncFailed,
 }
 
-/// Bytes in memory, and a record of each write and each sync. It fails exactly at those of them that are listed, a
-/// write after half of its bytes, and where it has no room for a call or its bytes. No call takes memory. One that is
-/// opened over the file of another has that one's record ahead of its own.
+/// Bytes in memory, and a record of each write and each sync. Exactly those of them fail that are listed, and those
+/// for which there is no room; a listed write fails after half of its bytes. No call takes memory. A disk that is
+/// opened over the file of another has that one's record before its own.
 ///
-/// Contracts see the record, how many of its calls were there when it was opened, the bytes, the list, the room and the
-/// count of faults.
+/// # Model
+///
+/// The record, how many of its calls were there when the disk was opened, the bytes, the list, the room and the fault
+/// counter.
 #[derive(Drop)]
 pub struct MemDisk {
     first: Vec<u8>,
@@ -79,7 +81,7 @@ impl Model for MemDisk {
         × left_in (state_after d.calls.items d.put.items (settled d.first.items)) d.bytes.items };
 }
 
-/// Puts the piece over what stands at `at` and behind it.
+/// Puts the piece over the bytes from `at` on.
 fn overwrite(bytes: &mut [u8], at: usize, piece: &[u8])
     requires { at + length piece.now ≤ length bytes.old }
     ensures { Holds bytes.old at piece.now bytes.new }
@@ -87,7 +89,7 @@ fn overwrite(bytes: &mut [u8], at: usize, piece: &[u8])
     bytes[at..at + piece.len()].copy_from_slice(piece);
 }
 
-/// Puts the piece over what stands at `at` and behind it, and past the end, for which there is room.
+/// Puts the piece over the bytes from `at` on, and past the end; there is room for it.
 pub(crate) fn put_over(bytes: &mut Vec<u8>, at: usize, piece: &[u8])
     requires inside { at ≤ length bytes.old.items }
     requires room { vec_len bytes.old + length piece.now ≤ vec_capacity bytes.old }
@@ -100,7 +102,7 @@ pub(crate) fn put_over(bytes: &mut Vec<u8>, at: usize, piece: &[u8])
     append_within(bytes, &piece[over..]);
 }
 
-/// Copies the front of `from` to that of `to`, as much as both have.
+/// Copies the front of `from` to that of `to`, as much as both have, and returns how many bytes.
 pub(crate) fn copy_front(from: &[u8], to: &mut [u8]) -> usize
     requires from { 0 < length from.now }
     requires to { 0 < length to.old }
@@ -112,7 +114,7 @@ pub(crate) fn copy_front(from: &[u8], to: &mut [u8]) -> usize
     n
 }
 
-/// Appends the piece, for which there is room.
+/// Appends the piece; there is room for it.
 pub(crate) fn append_within(bytes: &mut Vec<u8>, piece: &[u8])
     requires { vec_len bytes.old + length piece.now ≤ vec_capacity bytes.old }
     ensures items { bytes.new.items ≡ bytes.old.items ++ piece.now }
@@ -123,9 +125,12 @@ pub(crate) fn append_within(bytes: &mut Vec<u8>, piece: &[u8])
 }
 
 impl MemDisk {
-    /// A disk that holds these bytes, all of them synced, and has room for so many more bytes and so many calls,
-    /// writes and syncs alike. Of these calls, numbered from 0, those in `failing` fail. The one error is lack of
-    /// memory.
+    /// Creates a disk that holds these bytes, all of them synced, and has room for so many more bytes and so many
+    /// calls, writes and syncs alike. Of these calls, numbered from 0, those in `failing` fail.
+    ///
+    /// # Errors
+    ///
+    /// If memory runs out.
     pub fn new(
         alloc: Global,
         first: Vec<u8>,
@@ -161,9 +166,12 @@ impl MemDisk {
         })
     }
 
-    /// A disk over the file of this one, which goes on with its record: what a stop may leave of the one it may leave of
-    /// the other. Room, calls and those that fail, numbered from 0 behind the record, are as for a new one. The one
-    /// error is lack of memory.
+    /// Opens a disk over the file of this one, which goes on with its record: a stop may leave of it what it may
+    /// leave of this one. Room and calls are as for a new disk; those that fail are numbered from 0 after the record.
+    ///
+    /// # Errors
+    ///
+    /// If memory runs out.
     pub(crate) fn reopened(
         &self,
         alloc: Global,
@@ -200,28 +208,28 @@ impl MemDisk {
         })
     }
 
-    /// The bytes.
+    /// Lends the bytes.
     pub fn bytes(&self) -> &[u8]
         ensures { result.now ≡ self.now.bytes }
     {
         &self.bytes
     }
 
-    /// What it held at first.
+    /// Lends the bytes that it held at first.
     pub fn first(&self) -> &[u8]
         ensures { result.now ≡ self.now.first }
     {
         &self.first
     }
 
-    /// Its writes and syncs, in order.
+    /// Lends its writes and syncs, in order.
     pub fn calls(&self) -> &[DiskCall]
         ensures { result.now ≡ self.now.calls }
     {
         &self.calls
     }
 
-    /// Whether the next write or sync is listed as one that fails.
+    /// Returns whether the next write or sync is listed as one that fails.
     fn fails_next(&self) -> bool
         ensures { result ≡ fails_next self.now }
     {
@@ -229,7 +237,7 @@ impl MemDisk {
             .contains(&((self.calls.len() - self.begun) as u64))
     }
 
-    /// Whether there is no room for another call, or for so many bytes.
+    /// Returns whether there is no room for another call, or for so many bytes.
     fn is_full(&self, len: usize) -> bool
         ensures { result ≡ is_full self.now len }
     {
@@ -251,7 +259,7 @@ impl MemDisk {
         DiskFailed
     }
 
-    /// Puts a piece at an offset, which was to be so long, and records that.
+    /// Puts a piece at an offset, of a write of `len` bytes, and records it.
     fn record_write(&mut self, at: u64, piece: &[u8], len: usize)
         requires inside { at ≤ length self.old.bytes }
         requires room { length piece.now ≤ self.old.room }
@@ -274,7 +282,7 @@ impl MemDisk {
         self.calls_left -= 1;
     }
 
-    /// Puts a front of a piece that is so long at an offset, or all of it.
+    /// Puts a front of the piece of a write of `len` bytes at an offset, or all of it.
     fn put_front(&mut self, at: u64, piece: &[u8], len: usize)
         requires inside { at ≤ length self.old.bytes }
         requires room { length piece.now ≤ self.old.room }
@@ -292,7 +300,7 @@ impl MemDisk {
         self.record_write(at, piece, len);
     }
 
-    /// Fails a write behind the first half of its piece.
+    /// Fails a write after the first half of its piece.
     fn put_half(&mut self, at: u64, piece: &[u8]) -> DiskFailed
         requires inside { at ≤ length self.old.bytes }
         requires room { length piece.now ≤ self.old.room }
@@ -329,14 +337,14 @@ impl MemDisk {
         self.calls_left -= 1;
     }
 
-    /// How many faults it has counted.
+    /// Returns how many faults it has counted, up to 2^64 - 1.
     pub(crate) fn faults(&self) -> u64
         ensures { result ≡ self.now.faults }
     {
         self.faults
     }
 
-    /// The bytes that its writes put there, one after the other.
+    /// Lends the bytes that its writes put there, one after the other.
     pub fn put(&self) -> &[u8]
         ensures { result.now ≡ self.now.put }
     {

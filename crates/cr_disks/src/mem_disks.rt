@@ -15,10 +15,12 @@ use std::collections::BTreeMap;
 use std::marker::Model;
 use std::snapshot::Snapshot;
 
-/// Files in memory, by path, each as the disk that was last shut there: what a stop might have left of that one it may
-/// still leave. A disk over one has room for so many more bytes and calls, and fails at the calls that are listed.
+/// Files in memory, by path, each as the disk that was last shut there: what a stop might have left of that one it
+/// may still leave. A disk over one has room for so many more bytes and calls, and fails at the listed calls.
 ///
-/// Contracts see the disk at each path, the list, the room, the count of faults, and the disk that was shut last.
+/// # Model
+///
+/// The disk at each path, the list, the room, the fault counter, and the disk that was shut last.
 pub struct MemDisks {
     alloc: Global,
     files: BTreeMap<String, MemDisk>,
@@ -63,8 +65,8 @@ impl Model for MemDisks {
 }
 
 impl MemDisks {
-    /// Disks with no file at any path, and no fault counted. Each that they open has room for so many bytes past
-    /// those of its file and for so many writes and syncs, and of these, numbered from 0, those in `failing` fail.
+    /// Creates disks with no file at any path, and no fault counted. Each that they open has room for so many bytes
+    /// past those of its file and for so many writes and syncs. Of these, numbered from 0, those in `failing` fail.
     pub fn new(alloc: Global, room: usize, calls: usize, failing: Vec<u64>) -> Self
         ensures files { bytes_at result.files ≡ (λ _. []) }
         ensures states { state_at result.files ≡ (λ _. settled []) }
@@ -83,7 +85,11 @@ impl MemDisks {
         }
     }
 
-    /// The disk that was shut last at the path, with the record of its calls; one look-up.
+    /// Lends the disk that was shut last at the path, with the record of its calls.
+    ///
+    /// # Cost
+    ///
+    /// One look-up.
     pub fn file_at(&self, path: &str) -> Option<&MemDisk>
         ensures bytes { IfSome result (λ disk. disk.now.bytes ≡ bytes_at self.now.files path.now) }
         ensures state { IfSome result (λ disk. state_of disk.now ≡ state_at self.now.files path.now) }
@@ -93,7 +99,11 @@ impl MemDisks {
         self.files.get(path)
     }
 
-    /// The bytes that stand at the path; one look-up.
+    /// Lends the bytes at the path.
+    ///
+    /// # Cost
+    ///
+    /// One look-up.
     pub fn bytes_at(&self, path: &str) -> &[u8]
         ensures { result.now ≡ bytes_at self.now.files path.now }
     {
@@ -103,7 +113,11 @@ impl MemDisks {
         }
     }
 
-    /// Makes an empty file at the path where there is none.
+    /// Makes an empty file at the path, if there is none.
+    ///
+    /// # Errors
+    ///
+    /// If memory runs out.
     fn make_file(&mut self, path: &str) -> Result<(), AllocError>
         ensures opened { OnOk result (IsTrue (has_file self.new.files path.now)) }
         ensures files { bytes_at self.new.files ≡ bytes_at self.old.files }
@@ -118,7 +132,7 @@ impl MemDisks {
         add_file(self.alloc, &mut self.files, path)
     }
 
-    /// Whether a disk over the file at the path would have more bytes than a disk may have.
+    /// Returns whether a disk over the file at the path would have more bytes than a disk may have.
     fn is_too_long(&self, path: &str) -> bool
         ensures { IsFalse result ↔ (length (bytes_at self.now.files path.now) + self.now.room < 2 ^ 62) }
     {
@@ -126,7 +140,11 @@ impl MemDisks {
         self.bytes_at(path).len() as u64 >= most
     }
 
-    /// A disk over the file at the path.
+    /// Opens a disk over the file at the path.
+    ///
+    /// # Errors
+    ///
+    /// If memory runs out.
     fn disk_at(&self, path: &str) -> Result<MemDisk, AllocError>
         requires { length (bytes_at self.now.files path.now) + self.now.room < 2 ^ 62 }
         ensures bytes { IfOk result (λ disk. disk.bytes ≡ bytes_at self.now.files path.now) }
@@ -145,6 +163,10 @@ impl MemDisks {
 }
 
 /// Makes an empty file at a path where there is none.
+///
+/// # Errors
+///
+/// If memory runs out.
 fn add_file(
     alloc: Global,
     files: &mut BTreeMap<String, MemDisk>,

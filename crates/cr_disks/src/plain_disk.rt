@@ -11,10 +11,12 @@ use std::alloc::{AllocError, Global};
 use std::marker::Model;
 
 /// Bytes in memory, without a record of the calls, so that it takes no more than its bytes and their room. A write
-/// fails where it begins behind the end or has no room, and no other call does. No call takes memory.
+/// fails if it begins after the end or has no room, and no other call does. No call takes memory.
 ///
-/// Contracts see the bytes, the room and the count of faults. What a stop would leave of it they don't see: it is for
-/// whoever looks at none.
+/// # Model
+///
+/// The bytes, the room and the fault counter. It says nothing of what a stop would leave: it is for users who look at
+/// none.
 #[derive(Drop)]
 pub struct PlainDisk {
     bytes: Vec<u8>,
@@ -35,7 +37,11 @@ impl Model for PlainDisk {
 }
 
 impl PlainDisk {
-    /// A disk of these bytes, with room for so many more. The one error is lack of memory.
+    /// Creates a disk of these bytes, with room for so many more.
+    ///
+    /// # Errors
+    ///
+    /// If memory runs out.
     pub fn new(alloc: Global, first: &[u8], room: usize) -> Result<Self, AllocError>
         requires { length first.now + room ≤ 2 ^ 62 }
         ensures bytes { IfOk result (λ disk. disk.bytes ≡ first.now) }
@@ -51,7 +57,7 @@ impl PlainDisk {
         })
     }
 
-    /// The bytes.
+    /// Lends the bytes.
     pub fn bytes(&self) -> &[u8]
         ensures { result.now ≡ self.now.bytes }
     {

@@ -89,8 +89,8 @@ fn settle(file: &File) -> io::Result<()> {
     Ok(())
 }
 
-/// Opens a file and holds it for this process, with all that it has on the disk, and its name too, a user who made it,
-/// or put it there: an earlier process may have been stopped, or refused, ahead of that.
+/// Opens a file and holds it for this process, with all that it has on the disk, and its name too, whichever process
+/// made it or put it there: an earlier one may have been stopped, or refused, before that.
 fn open_held(rt: &HostRuntime, path: &str) -> Result<File, Reason> {
     let file = open_or_make(rt, path)?;
     match file.try_lock() {

@@ -6,12 +6,8 @@
 //!
 //! # Tested
 //!
-//! - On real files, with a second reader (`checks/journal.py`): kills under eight clients; copies meanwhile; a full
-//!   disk. Each read, write and sync refused or cut short. Files and folders that can't be synced; pages that can't be
-//!   dropped.
-//! - There too: a journal that can't be made, and is at the next start; one just put at its name, and a power cut. A
-//!   second process; file modes. Files that are no journal; one wrong byte at each of the first 400 places.
-//! - Three file systems, over a disk that refuses a write: `checks/real_disks.py`.
+//! - On real files, with a second reader, kills, full disks, power cuts, and each call refused or cut short:
+//!   `checks/journal.py`. Three file systems, over a disk that refuses a write: `checks/real_disks.py`.
 //!
 //! # Assumed
 //!

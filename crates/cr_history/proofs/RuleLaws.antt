@@ -2,7 +2,7 @@
 use Rattle.std.proofs.Common.{ℕ, Bool, true, false, cond, ◌≡◌, ◌<◌, ◌+◌, arith, List, [], ◌∷◌, length, eqb, refl, sym}
 use Rattle.std.proofs.Common.{ap, subst, ◌∙◌, ◌||◌, ◌&&◌, Option, Some, None, Ok}
 use Rattle.std.specs.Prelude.{not, nat_le, is_some, is_none, unwrap_or}
-use Rattle.std.specs.List.{list_any, flat_map}
+use Rattle.std.specs.List.{list_any, flat_map, AllByRecursion}
 use Rattle.std.specs.Option.{option_map}
 use Rattle.std.proofs.lemmas.Bool.{eqb-true, leb-false, true≢false, not-false, or_left}
 use Rattle.cr_base.specs.declared.command.Command.{Command}
@@ -33,12 +33,13 @@ use Rattle.cr_base.specs.Phases.{comments_are_written, decisions_are_made}
 use Rattle.cr_base.specs.Words.{role_number, is_member, is_chair}
 use Rattle.cr_base.specs.Bounds.{IsBoundedCommand}
 use Rattle.cr_base.specs.Texts.{IsName}
-use Rattle.cr_base.specs.Checks.{Check, of_role, target_role, register_checks, chair_checks, conflict_checks}
+use Rattle.cr_base.specs.Checks.{Check, of_role, target_role, chair_checks, conflict_checks}
 use Rattle.cr_base.specs.Checks.{assign_checks, unassign_checks, invite_checks, uninvite_checks}
 use Rattle.cr_base.specs.Deeds.{Deed, deed_at, drawn_by}
-use Rattle.cr_base.specs.Drawn.{Drawn, grouped, registration_drawn}
+use Rattle.cr_base.specs.Drawn.{Drawn, grouped}
 use Rattle.cr_base.specs.Judging.{judge_by}
-use Rattle.cr_base.specs.Sources.{Facts, Shown, number_in, user_among, users_among, role_among, paper_named}
+use Rattle.cr_base.specs.Resolving.{all_found, resolve}
+use Rattle.cr_base.specs.Sources.{Facts, Shown, user_among, users_among, role_among, paper_named}
 use Rattle.cr_base.specs.Sources.{target_named, is_late}
 use Rattle.cr_base.proofs.CheckLaws.{NoneBroken, judged-Ok, judged-none}
 use Rattle.cr_base.proofs.FitLaws.{none-where, some-where}
@@ -56,13 +57,13 @@ pub registration-adds : (H : History) (stamp : Stamp) (facts : Facts) (shown : S
     → judge_by facts shown stamp (Register name digest) ≡ Ok drawn → Adds H drawn.group
 registration-adds H stamp facts shown name digest drawn bounds bounded accepted =
     let n : ℕ = length facts.accounts in
-    let k = judged-Ok (register_checks (is_some (number_in facts.accounts name)) n)
-    (registration_drawn stamp (n + 1) name digest) drawn accepted in
+    let made : Deed = deed_at facts shown stamp (resolve facts.accounts (Register name digest)) in
+    let k = judged-Ok made.checks (drawn_by facts.accounts stamp made) drawn accepted in
     subst (λ (d : Drawn). Adds H d.group) k.1 (by (n + 1) (eqb (n + 1) 1) refl)
   where
     by : (user : ℕ) (b : Bool) → eqb user 1 ≡ b
         → Adds H (grouped (record stamp { maker = user })
-        (cond b (Registered user name digest ∷ Named user Chair ∷ []) (Registered user name digest ∷ [])))
+        (Registered user name digest ∷ cond b (Named user Chair ∷ []) []))
     by user true is = first_user (record stamp { maker = user }) name digest
         (record { moment = bounds.moment; key = bounds.key }) (eqb-true user 1 is) bounded
     by user false is = single (record stamp { maker = user }) (Registered user name digest)
@@ -293,14 +294,20 @@ module _ (H : History) (stamp : Stamp) (shown : Shown) (bounds : IsBoundedStamp 
   -- ---- all commands
 
   abbrev deed_of : Command → Deed
-  deed_of command = deed_at facts shown stamp command
+  deed_of command = deed_at facts shown stamp (resolve facts.accounts command)
+
+  -- the users found, where all were, have registered
+  found-registered : (missing : Bool) (users : List ℕ) → AllByRecursion (IsRegistered H) users
+      → AllByRecursion (IsRegistered H) (unwrap_or (cond missing None (Some users)) [])
+  found-registered true users all = tt
+  found-registered false users all = all
 
   -- what a deed of which no rule is broken adds
   deed-adds : (command : Command) → IsBoundedCommand command → NoneBroken (deed_of command).checks
-      → Adds H (drawn_by stamp (deed_of command)).group
+      → Adds H (drawn_by facts.accounts stamp (deed_of command)).group
   deed-adds (Register name digest) bounded none =
-      registration-adds H stamp facts shown name digest (drawn_by stamp (deed_of (Register name digest))) bounds bounded
-      (judged-none (deed_of (Register name digest)).checks (drawn_by stamp (deed_of (Register name digest))) none)
+      registration-adds H stamp facts shown name digest (drawn_by facts.accounts stamp (deed_of (Register name digest))) bounds bounded
+      (judged-none (deed_of (Register name digest)).checks (drawn_by facts.accounts stamp (deed_of (Register name digest))) none)
   deed-adds (SetPhase to) bounded none =
       single stamp (PhaseSet to) bounds registered tt
       (record {
@@ -315,7 +322,7 @@ module _ (H : History) (stamp : Stamp) (shown : Shown) (bounds : IsBoundedStamp 
   deed-adds (Submit title abstract names) bounded none =
       let n : ℕ = length facts.papers in
       let users : List (Option ℕ) = users_among facts.accounts names in
-      let others : List ℕ = flat_map listed users in
+      let others : List ℕ = unwrap_or (all_found users) [] in
       submitted stamp (n + 1) title abstract others bounds registered
       (record {
         phase = submitting H maker none.1.0;
@@ -325,7 +332,7 @@ module _ (H : History) (stamp : Stamp) (shown : Shown) (bounds : IsBoundedStamp 
         right = tt;
         seat = tt;
         texts = (bounded.0, bounded.1);
-      }) (users-registered H names)
+      }) (found-registered (list_any is_none users) (flat_map listed users) (users-registered H names))
   deed-adds (Revise paper title abstract) bounded none =
       single stamp (Revised (unwrap_or paper 0) title abstract) bounds registered tt
       (record {
@@ -521,5 +528,5 @@ module _ (H : History) (stamp : Stamp) (shown : Shown) (bounds : IsBoundedStamp 
   pub command-adds : (command : Command) (drawn : Drawn) → IsBoundedCommand command
       → judge_by facts shown stamp command ≡ Ok drawn → Adds H drawn.group
   command-adds command drawn bounded accepted =
-      let k = judged-Ok (deed_of command).checks (drawn_by stamp (deed_of command)) drawn accepted in
+      let k = judged-Ok (deed_of command).checks (drawn_by facts.accounts stamp (deed_of command)) drawn accepted in
       subst (λ (d : Drawn). Adds H d.group) k.1 (deed-adds command bounded k.0)

@@ -3,14 +3,12 @@
 //! # Proved
 //!
 //! - If each entry fits in its turn, and co-authors come before any conflict with their paper, the tables have the
-//!   facts of the history that its comment lists: `law_tables`.
-//! - If the history keeps the invariants, they also have which forms the committee discusses, to which of a label
-//!   authors respond, and which are a user's own: `law_forms`.
-//! - The empty history keeps the invariants, and each group that the rules let a command add preserves them; so does
-//!   the entry of a bulk's row that fits the tables. What a command adds is never cut off: `law_growth` (`first`,
-//!   `more`, `whole`). `law_legal` of cr_policy proves that accepted commands and bulks add such groups.
+//!   facts of the history: `law_tables`. If the history keeps the invariants, they also have which forms count:
+//!   `law_forms`.
+//! - The empty history keeps the invariants, and what the rules let a command or a bulk's row add preserves them, and
+//!   is never cut off: `law_growth` (`first`, `more`, `whole`).
 //! - The tables keep at most as many records of a paper as any history has entries on it: `law_records` (`kept`,
-//!   `declared`). Its comment says which records count.
+//!   `declared`).
 //!
 //! # Assumed
 //!

@@ -7,7 +7,7 @@ use Rattle.cr_http.specs.declared.fill.HeadFill.{HeadFill}
 use Rattle.cr_http.specs.declared.fill.HeadFill.TheVariants as heads
 use Rattle.cr_http.specs.HeadRange.{head_at}
 
--- The source gave these bytes, and the buffer has them behind its own.
+-- The source gave these bytes, and the buffer has them after its own.
 pub record Moves (left left' : Option (List ℕ)) (old new : List ℕ) : Type 0 where
   pub got : List ℕ
   pub given : left ≡ and_left got left'

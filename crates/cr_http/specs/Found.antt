@@ -37,7 +37,7 @@ line_feeds bytes = count_by (λ b. b == 10) bytes
 abbrev pub IsNoHead : List ℕ → Type 0
 IsNoHead bytes = (h : RequestHead) → ReadsRequest bytes h [] → ⊥
 
--- these bytes are a head of the grammar, or are refused
+-- the bytes are a head of the grammar, or are refused
 abbrev pub StandsAfter : List ℕ → List ℕ → Found → Type 0
 StandsAfter bytes rest found =
     ((h : RequestHead) × ReadsRequest bytes h [] × (found ≡ with_body (head_of h) (framing_of (head_of h)) rest))
@@ -50,18 +50,18 @@ StandsFrom text (Some range) found =
     (found ≡ refused HeadTooLarge false)
     (StandsAfter (slice_range text range.0 range.1) (drop range.1 text) found)
 
--- what stands at the front of the text
+-- what is at the front of the text: a request, a refusal or an end
 abbrev pub StandsAt : List ℕ → Found → Type 0
 StandsAt text found = StandsFrom text (head_at text) found
 
--- it stands there however the text goes on
+-- what is at the front stays there however the text goes on
 abbrev pub IsFinal : Found → Type 0
 IsFinal (whole h body rest) = ⊤
 IsFinal (refused why head) = ⊤
 IsFinal clean = ⊥
 IsFinal cut = ⊥
 
--- the same where these bytes follow
+-- what is at the front of a text that goes on with these bytes
 abbrev pub found_and : Found → List ℕ → Found
 found_and (whole h body rest) more = whole h body (rest ++ more)
 found_and (refused why head) more = refused why head

@@ -16,15 +16,15 @@ use Rattle.cr_http.specs.Head.{is_head_method}
 use Rattle.cr_http.specs.Requests.{RequestText}
 use Rattle.cr_http.specs.ToHead.{IsToHead}
 
--- the request stands at the front of the text, and this behind it
+-- the request is at the front of the text, and these bytes follow it
 abbrev pub StandsWhole : List ℕ → RequestText → List ℕ → Type 0
 StandsWhole text r rest = StandsAt text (whole r.head r.body rest)
 
--- a request or a refusal stands at the front of the text, however it goes on
+-- a request or a refusal is at the front of the text, however it goes on
 abbrev pub IsSettled : List ℕ → Type 0
 IsSettled text = (found : Found) × IsFinal found × StandsAt text found
 
--- what stands at the front can't be told without more bytes, or the end
+-- what is at the front can't be told without more bytes, or the end
 abbrev pub IsUnsettled : List ℕ → Type 0
 IsUnsettled text = IsSettled text → ⊥
 
@@ -51,8 +51,8 @@ AtEndIfEnded reads.Cut left = IsAtEnd left
 AtEndIfEnded reads.ReadFault left = ⊤
 AtEndIfEnded (reads.OutOfMemory is_head) left = ⊤
 
--- The source gave these bytes; behind those of the inbox they are a text at whose front the answer stands. No read was
--- made once that was settled.
+-- The source gave these bytes. After those of the inbox they are a text, and the answer is what is at its front. No
+-- read was made once that was settled.
 pub record Reads {S : Type 0} (left : S → Option (List ℕ)) (gives : S → S → List ℕ → Type 0)
     (source source' : S) (inbox inbox' : InboxText) (answer : RequestRead) : Type 0 where
   pub got : List ℕ
@@ -75,7 +75,7 @@ Lies reads.ReadFault text kept headers block request =
 Lies (reads.OutOfMemory is_head) text kept headers block request =
     (request ≡ None) × (kept ≡ text) × (StandsAt text clean ⊎ StandsAt text cut) × IsToHead text is_head
 
--- The source gave what makes this text of the bytes that were there, and the answer stands at its front.
+-- The source gave what makes this text of the bytes that were there, and the answer is what is at its front.
 pub record ReadsInto {S : Type 0} (left : S → Option (List ℕ)) (gives : S → S → List ℕ → Type 0)
     (source source' : S) (old kept : List ℕ) (headers : List HeaderSpan) (block : Option (List ℕ))
     (request : Option Extent)

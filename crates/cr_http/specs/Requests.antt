@@ -9,12 +9,12 @@ pub record RequestText : Type 0 where
   pub head : HeadText
   pub body : List ℕ
 
--- how a text ends: between requests, inside one, behind one that closes, or by a refusal, to HEAD or not
+-- how a text ends: between requests, inside one, after one that closes, or by a refusal, to HEAD or not
 pub data End : Type 0 where
   ended_clean ended_cut asked : End
   closed : Refusal → Bool → End
 
--- the end that stands where no request does
+-- the end that a text has if no request is at its front
 abbrev pub EndsBy : Found → End → Type 0
 EndsBy (whole h b rest) end = ⊥
 EndsBy (refused why head) end = end ≡ closed why head

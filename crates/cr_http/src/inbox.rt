@@ -1,4 +1,4 @@
-//! What a connection has read: the request at hand, lent, and the bytes behind it.
+//! What a connection has read: the request at hand, lent, and the bytes after it.
 ghost use Rattle.std.specs.Prelude.{◌≡◌, [], IsSome, IfSome, length, unwrap_or};
 ghost use Rattle.cr_http.specs.Body.{IsBody};
 ghost use Rattle.cr_http.specs.Buffer.{text_of};

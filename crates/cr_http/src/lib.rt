@@ -1,22 +1,16 @@
-//! Requests out of a stream of bytes (RFC 9112), however it is cut into pieces.
-//!
-//! Head and body are lent from the connection's [`Inbox`]. It allocates one block, and one more for a body of
-//! [`LARGE_BODY`] bytes or more that isn't whole when its head is read.
+//! Requests out of a stream of bytes (RFC 9112), however it is cut into pieces. Head and body are lent from the
+//! connection's [`Inbox`].
 //!
 //! # Proved
 //!
-//! - What is read is what the stream's text has at this place, in whatever pieces: a request, a refusal by its name, a
-//!   clean end, or one inside a request. After a fault or lack of memory it is what came, and what is left:
-//!   `read_request` (`reads`).
+//! - What is read is what the stream's text has at this place: a request, a refusal by its name, a clean end, or one
+//!   inside a request. After a fault or lack of memory it is what came, and what is left: `read_request` (`reads`). A
+//!   text has one reading: `law_one_reading`. What is at its front stays, whatever follows: `law_final_stays`.
 //! - Unless memory runs out, a body has at most 4,194,304 bytes (4 MiB), and is kept unchanged: `Inbox::request`
 //!   (`short`), `Body::to_blob` (`value`).
 //! - Each read was made while the bytes at hand had no request or refusal at their front (`needed`, in `reads`). So
-//!   none follows a refusal, and its body stays unread.
-//! - No read goes past a body of [`LARGE_BODY`] bytes or more that it finds unfinished: `fill_body` (`exact`).
+//!   none follows a refusal. None goes past a body of [`LARGE_BODY`] bytes or more: `fill_body` (`exact`).
 //! - A read fault means that the source's counter rose; else it stays: `read_request` (`fault`, `steady`).
-//! - A text has one reading: `law_one_reading`. A request or refusal at its front stays, whatever follows:
-//!   `law_final_stays`.
-//! - Decimal digits are read as their number: `all_digits`.
 //!
 //! # Assumed
 //!

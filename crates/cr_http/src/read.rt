@@ -46,15 +46,16 @@ pub enum RequestRead {
 /// Reads the request at the front of the bytes that the inbox has not used and those that the source has left. The
 /// request that the inbox lent before is dropped first.
 ///
-/// Nothing is read ahead: each read is made only where neither a whole request nor a refusal is in what has come, so
-/// after a refusal that closes no byte of a body is asked for. Bytes after the request that came with its last piece
-/// stay in the inbox. Where bytes of a head come later, the search goes on where it stopped. A body of 16,384 bytes or
-/// more that isn't whole when its head is read goes into a block of its own, of the length that the head tells, and no
+/// Nothing is read ahead: each read is made only if neither a whole request nor a refusal is in what has come, so
+/// after a refusal that closes, no byte of a body is read. Bytes after the request that came with its last piece stay
+/// in the inbox. If bytes of a head come later, the search goes on where it stopped. A body of 16,384 bytes or more
+/// that isn't whole when its head is read goes into a block of its own, of the length that the head tells, and no
 /// read goes past its end.
 ///
-/// `ReadFault` comes only where the source's fault counter rose, or is at its maximum, and with every other answer
-/// that count is unchanged. Behind it, and after `OutOfMemory`, the inbox keeps all that came, and the source has left
-/// what follows.
+/// # Errors
+///
+/// `ReadFault`: the source's fault counter rose; with every other answer it is unchanged. After it, and after
+/// `OutOfMemory`, the inbox keeps all that came, and the source has left what follows.
 ///
 /// # Cost
 ///

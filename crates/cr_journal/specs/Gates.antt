@@ -1,4 +1,4 @@
--- What stands at the gate at which a journal ends, in what a read gives and in what a stop may leave.
+-- What is at the gate at which a journal ends, in what a read gives and in what a stop may leave.
 use Rattle.std.specs.Prelude.{◌≡◌, ◌≢◌, ◌⊎◌, ℕ, ◌+◌, ◌<◌, ◌≤◌, List, [], ◌∷◌, ◌++◌, length, take, drop}
 use Rattle.cr_ports.specs.Stopping.{IsAmong}
 use Rattle.cr_journal.specs.Grammar.{AreSized, IsJournal, field, front}
@@ -14,7 +14,7 @@ pub record SameBut (at : ℕ) (old new : List ℕ) : Type 0 where
   pub back : drop (at + 1) new ≡ drop (at + 1) old
   pub long : length new ≡ length old
 
--- the gate behind these payloads is closed, and synced
+-- the gate after these payloads is closed, and synced
 pub record IsShut (file : List ℕ) (images : List ℕ → Type 0) (gate : ℕ) (kept : List (List ℕ)) : Type 0 where
   pub value : ℕ
   pub shut : value ≢ 1
@@ -24,7 +24,7 @@ pub record IsShut (file : List ℕ) (images : List ℕ → Type 0) (gate : ℕ) 
   pub closed : take (gate + 1) file ≡ front kept ++ value ∷ []
   pub synced : (image : List ℕ) → images image → SameTo (gate + 1) file image
 
--- the gate may hold anything; a whole payload and a closed gate are synced behind it
+-- the gate may hold anything; a whole payload and a closed gate are synced after it
 pub record MayBeOpen (file : List ℕ) (images : List ℕ → Type 0) (gate : ℕ) (kept : List (List ℕ)) (p : List ℕ) : Type
     0 where
   pub sized : AreSized (kept ++ p ∷ [])

@@ -4,7 +4,7 @@ use Rattle.std.specs.List.{AllByRecursion, flat_map}
 use Rattle.std.specs.Int.{w64, to_be_bytes}
 use Rattle.cr_base.specs.declared.row.Row.{Row}
 
--- It begins with these 8 bytes: CONFDJ01.
+-- A journal begins with these 8 bytes: CONFDJ01.
 abbrev pub magic : List ℕ
 magic = 67 ∷ 79 ∷ 78 ∷ 70 ∷ 68 ∷ 74 ∷ 48 ∷ 49 ∷ []
 
@@ -12,7 +12,7 @@ magic = 67 ∷ 79 ∷ 78 ∷ 70 ∷ 68 ∷ 74 ∷ 48 ∷ 49 ∷ []
 unfoldable pub number : ℕ → List ℕ
 number n = to_be_bytes w64 n
 
--- Bytes stand behind their length.
+-- Bytes follow their length.
 abbrev pub field : List ℕ → List ℕ
 field bytes = number (length bytes) ++ bytes
 
@@ -28,12 +28,12 @@ row_text r = flat_map number (numbers_of r) ++ (field r.mark ++ (field r.b1 ++ f
 abbrev pub payload : List Row → List ℕ
 payload group = flat_map row_text group
 
--- A gate that is 1 is open: behind it stand a payload, behind its length, and the next gate.
+-- A gate that is 1 is open: after it come the length of a payload, the payload, and the next gate.
 abbrev pub frames : List (List ℕ) → List ℕ
 frames [] = []
 frames (p ∷ payloads) = (1 ∷ field p) ++ frames payloads
 
--- all that stands in front of the closed gate
+-- all that comes before the closed gate
 abbrev pub front : List (List ℕ) → List ℕ
 front payloads = magic ++ frames payloads
 
@@ -41,8 +41,8 @@ front payloads = magic ++ frames payloads
 abbrev pub AreSized : List (List ℕ) → Type 0
 AreSized payloads = AllByRecursion (λ p. length p < 2 ^ 64) payloads
 
--- From some place on the file is the open gates of these payloads and then a closed gate, one that isn't 1, which ends
--- it, whatever stands behind.
+-- From some place on the file is the open gates of these payloads and then a closed gate, one that isn't 1, which
+-- ends it, whatever follows.
 pub record IsTail (payloads : List (List ℕ)) (bytes : List ℕ) : Type 0 where
   pub gate : ℕ
   pub rest : List ℕ
@@ -58,7 +58,7 @@ pub record IsJournal (payloads : List (List ℕ)) (file : List ℕ) : Type 0 whe
   pub shut : gate ≢ 1
   pub is : file ≡ front payloads ++ gate ∷ rest
 
--- these numbers have 8 bytes
+-- each of these numbers fits 8 bytes
 abbrev pub AreNumbers : List ℕ → Type 0
 AreNumbers numbers = AllByRecursion (λ n. n < 2 ^ 64) numbers
 

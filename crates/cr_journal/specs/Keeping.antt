@@ -29,7 +29,7 @@ pub record Opens (file : List ℕ) (rows : List Row) : Type 0 where
 abbrev pub OpensTo : List Row → List (List Row) → List ℕ → Type 0
 OpensTo rows tried file = stopping.OpensTo Opens rows tried file
 
--- a keeper: its disk, its rows, and the group that may stand behind its gate, where one may
+-- a keeper: its disk, its rows, and the group that may follow its gate, if one may
 pub record Journaled (D : Type 0) : Type 0 where
   pub disk : D
   pub rows : List Row
@@ -44,7 +44,7 @@ pub record IsAtGate (file : List ℕ) (gate : ℕ) (groups : List (List Row)) : 
   pub size : gate ≡ length (front (map payload groups))
   pub before : take gate file ≡ front (map payload groups)
 
--- what stands at a gate, with which these bytes begin
+-- what is at a gate, with which these bytes begin
 abbrev pub GateRead : Gate → List ℕ → Type 0
 GateRead gates.Closed bytes = (value : ℕ) × (rest : List ℕ) × (value ≢ 1) × (bytes ≡ value ∷ rest)
 GateRead (gates.Open len) bytes = (9 + len ≤ length bytes) × (bytes ≡ 1 ∷ (number len ++ drop 9 bytes))
@@ -56,7 +56,7 @@ pub record OpenCause {T : Type 0} (before now : ℕ) (result : Result T OpenErro
   pub failed : result ≡ Err Failed → Rises before now
   pub steady : result ≢ Err Failed → now ≡ before
 
--- a read behind the first bytes of a buffer, `filled` of them, gave the next of these, or there were no more
+-- a read after the first bytes of a buffer, `filled` of them, gave the next of these, or there were no more
 abbrev pub ReadsOn : ReadStep → ℕ → List ℕ → List ℕ → List ℕ → Type 0
 ReadsOn (reads.Got n) filled old new bytes =
     (0 < n) × (filled + n ≤ length old) × (take filled new ≡ take filled old)
@@ -67,7 +67,7 @@ ReadsOn reads.Failed filled old new bytes = ⊤
 
 -- ---- a keeper
 
--- The journal keeps the rows of these groups, and where its gate is in doubt this group may stand behind it.
+-- The journal keeps the rows of these groups; if its gate is in doubt, this group may follow it.
 pub record Keeps {D : Type 0} (seen : D → List ℕ) (may_leave : D → List ℕ → Type 0) (journal : Journal D)
     (rows : List Row) (doubt : List Row) : Type 0 where
   pub groups : List (List Row)

@@ -9,21 +9,21 @@ abbrev pub ◌>>=◌ : {A B : Type 0} → Option A → (A → Option B) → Opti
 (Some x) >>= f = f x
 None >>= f = None
 
--- a number and the bytes behind it
+-- a number, and the bytes after it
 unfoldable pub number_at : List ℕ → Option (ℕ × List ℕ)
 number_at bytes = if nat_lt (length bytes) 8 then None else Some (from_be_bytes w64 (take 8 bytes), drop 8 bytes)
 
--- so many bytes and those behind them
+-- so many bytes, and those after them
 abbrev pub front_of : ℕ → List ℕ → Option (List ℕ × List ℕ)
 front_of n bytes = if nat_lt (length bytes) n then None else Some (take n bytes, drop n bytes)
 
--- bytes that stand behind their length, and those behind them
+-- bytes that follow their length, and those after them
 unfoldable pub field_at : List ℕ → Option (List ℕ × List ℕ)
 field_at bytes = do
   n ← number_at bytes
   front_of n.0 n.1
 
--- so many numbers, and the bytes behind them
+-- so many numbers, and the bytes after them
 unfoldable pub numbers_at : ℕ → List ℕ → Option (List ℕ × List ℕ)
 numbers_at zero bytes = Some ([], bytes)
 numbers_at (suc n) bytes = do
@@ -49,7 +49,7 @@ row_of numbers mark b1 b2 = record {
   b2 = b2;
 }
 
--- a row, and the bytes behind it
+-- a row, and the bytes after it
 unfoldable pub row_at : List ℕ → Option (Row × List ℕ)
 row_at bytes = do
   numbers ← numbers_at 10 bytes

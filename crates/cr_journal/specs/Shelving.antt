@@ -5,8 +5,8 @@ use Rattle.cr_base.specs.declared.row.Row.{Row}
 use Rattle.cr_journal.specs.Grammar.{IsJournalOf}
 use Rattle.cr_journal.specs.Stored.{stored_rows}
 
--- its disks, how many files were no journals, whether the last that was to be opened is none, or was left half made, and
--- the disk of the last journal as it was when that was open
+-- a shelf: its disks; how many files were refused as no journals; whether the last that was to be opened is none, or
+-- was left half made; and the disk of the last journal as it was when that was open
 pub record Shelved (D F : Type 0) : Type 0 where
   pub disks : D
   pub refused : ℕ
@@ -18,7 +18,7 @@ pub record Shelved (D F : Type 0) : Type 0 where
 abbrev pub opened_at : {D F : Type 0} → (F → ℕ) → Shelved D F → ℕ
 opened_at moment shelf = option_map_or moment shelf.last 0
 
--- the rows at a path, where its disks tell their bytes and a journal stands there
+-- the rows at a path, if its disks tell their bytes and a journal is there
 abbrev pub rows_at : Bool → (List ℕ → List ℕ) → List ℕ → Option (List Row)
 rows_at true files path = stored_rows (files path)
 rows_at false files path = None

@@ -3,7 +3,7 @@ use Rattle.std.specs.Prelude.{◌≡◌, ℕ, Bool, true, false, List, [], ◌�
 use Rattle.cr_journal.specs.Gates.{IsShut, MayBeOpen}
 use Rattle.cr_journal.specs.declared.state.Journal.{Journal}
 
--- These payloads are kept; where the gate is in doubt, this one may stand behind it.
+-- These payloads are kept; if the gate is in doubt, this one may follow it.
 pub record Stands {D : Type 0} (seen : D → List ℕ) (may_leave : D → List ℕ → Type 0) (journal : Journal D)
     (kept : List (List ℕ)) (p : List ℕ) : Type 0 where
   pub shut : journal.in_doubt ≡ false → IsShut (seen journal.disk) (may_leave journal.disk) journal.gate kept

@@ -12,7 +12,7 @@ use crate::steps::{set_gate, stage};
 use cr_disks::{Disk, DiskFailed};
 
 impl<D: Disk> Journal<D> {
-    /// Closes the gate again, where it is in doubt: the two calls before an append.
+    /// Closes the gate again, if it is in doubt: the two calls before an append.
     pub(crate) fn make_ready(&mut self) -> Result<(), DiskFailed>
         requires { IsTrue D.tells
             → (kept : List (List ℕ)) × (d : List ℕ) × Stands D.seen D.may_leave self.old kept d }
@@ -34,7 +34,7 @@ impl<D: Disk> Journal<D> {
         Ok(())
     }
 
-    /// Appends a payload behind a gate that isn't in doubt, given as its block: its length, itself, a closed gate.
+    /// Appends a payload at a gate that isn't in doubt, given as its block: its length, itself, a closed gate.
     pub(crate) fn append(&mut self, block: &[u8]) -> Result<(), DiskFailed>
         requires room { self.old.gate < 2 ^ 62 }
         requires ready { self.old.in_doubt ≡ false }

@@ -22,8 +22,10 @@ use std::marker::Model;
 
 /// The rows of a journal, held in memory and in a file that only grows.
 ///
-/// Contracts see its disk, the rows, and the group that may be found behind them after a stop, where an append that
-/// failed left one.
+/// # Model
+///
+/// Its disk, the rows, and the group that may be found after them once the machine stopped, if an append that failed
+/// left one.
 #[derive(Drop)]
 pub struct JournalKeeper<D: Disk> {
     alloc: Global,
@@ -49,7 +51,11 @@ impl<D: Disk> Model for JournalKeeper<D> {
         × (IsTrue D.tells → Keeps D.seen D.may_leave k.journal k.rows.items k.doubt.items) };
 }
 
-/// Copies of `rows`.
+/// Copies `rows`.
+///
+/// # Errors
+///
+/// If memory runs out.
 fn copies_of(alloc: Global, rows: &[Row]) -> Result<Vec<Row>, AllocError>
     ensures { IfOk result (λ copies. copies.items ≡ rows.now) }
 {
@@ -60,7 +66,7 @@ fn copies_of(alloc: Global, rows: &[Row]) -> Result<Vec<Row>, AllocError>
     Ok(copies)
 }
 
-/// What an append takes, so that nothing is wanting once the disk has it.
+/// What an append needs, taken in advance so that nothing is missing once the disk has the group.
 #[derive(Drop)]
 struct Prepared {
     block: Vec<u8>,
@@ -68,6 +74,10 @@ struct Prepared {
 }
 
 /// Makes the block of a group and copies of its rows, and room for these.
+///
+/// # Errors
+///
+/// If memory runs out.
 fn prepare(alloc: Global, rows: &mut Vec<Row>, added: &[Row]) -> Result<Prepared, AllocError>
     ensures same { rows.new.items ≡ rows.old.items }
     ensures copies { IfOk result (λ p. p.copies.items ≡ added.now) }
@@ -81,7 +91,7 @@ fn prepare(alloc: Global, rows: &mut Vec<Row>, added: &[Row]) -> Result<Prepared
     Ok(Prepared { block, copies })
 }
 
-/// Puts the copies behind the rows, which have room for them.
+/// Moves the copies to the end of the rows, which have room for them.
 fn add_all(rows: &mut Vec<Row>, copies: &mut Vec<Row>)
     requires { vec_len rows.old + vec_len copies.old ≤ vec_capacity rows.old }
     ensures rows { rows.new.items ≡ rows.old.items ++ copies.old.items }
@@ -158,11 +168,15 @@ fn keep_group<D: Disk>(
 }
 
 impl<D: Disk> JournalKeeper<D> {
-    /// A keeper of the rows that the disk's file has as a journal. An empty file becomes a journal of no rows. All of
-    /// it is read, once it is synced.
+    /// Opens the rows that the disk's file has as a journal. An empty file becomes a journal of no rows. All of it is
+    /// read, once it is synced.
     ///
-    /// `Failed` comes only where the disk failed, which then has the bytes that it had; `NotMade` only where it failed
-    /// and had none, and may now have some; and `NoJournal` only where its bytes are no journal of any groups.
+    /// # Errors
+    ///
+    /// - `Failed`: the disk's fault counter rose, and it has the bytes that it had.
+    /// - `NotMade`: the counter rose; the file was empty, and may now have some bytes.
+    /// - `NoJournal`: the bytes are no journal of any groups.
+    /// - `OutOfMemory`: memory ran out.
     pub fn open(alloc: Global, mut disk: D) -> Result<Self, (OpenError, D)>
         ensures found { IsTrue D.tells → IfOk result (λ k. (groups : List (List Row))
             × IsJournalOf groups (D.seen k.disk) × (rows_of groups ≡ k.rows)) }
@@ -195,8 +209,8 @@ impl<D: Disk> JournalKeeper<D> {
         }
     }
 
-    /// Its disk, whose file opens to the rows, or to these and then whole a group whose append failed since the last
-    /// that was kept.
+    /// Returns its disk. The file opens to the rows, or to these and one whole group whose append failed since the
+    /// last success.
     pub fn into_disk(self) -> D
         ensures disk { result ≡ self.disk }
         ensures opens { IsTrue D.tells → OpensTo self.rows self.doubted (D.seen self.disk) }
@@ -210,7 +224,7 @@ impl<D: Disk> JournalKeeper<D> {
         journal.into_disk()
     }
 
-    /// Its disk, to look at.
+    /// Lends its disk.
     pub fn disk(&self) -> &D
         ensures { result.now ≡ self.now.disk }
     {
@@ -241,7 +255,8 @@ impl<D: Disk> Keeper for JournalKeeper<D> {
 
     ghost opens = { Opens };
 
-    /// Four calls of the disk, or six where a group may be found behind the rows, which is taken away first.
+    /// Appends by four calls of the disk, or by six if a group may be found after the rows, which is taken away
+    /// first.
     fn append_all(&mut self, added: &[Row]) -> Result<(), KeeperError>
         ensures kept { OnOk result (Some self.new.rows ≡ and_rows (Some self.old.rows) added.now) }
         ensures refused { OnErr result (Some self.new.rows ≡ Some self.old.rows) }
@@ -283,8 +298,8 @@ impl<D: Disk> Keeper for JournalKeeper<D> {
     }
 }
 
-/// A stop between two calls leaves a file that opens to the rows kept so far, or to these and then whole a group whose
-/// append failed since the last that was kept.
+/// Proves that a stop between two calls leaves a file that opens to the rows kept so far, or to these and one whole
+/// group whose append failed since the last success.
 pub fn law_stops<D: Disk>(keeper: &JournalKeeper<D>)
     ensures between { IsTrue D.tells → (image : List ℕ) → D.may_leave keeper.now.disk image
         → OpensTo keeper.now.rows keeper.now.doubted image }

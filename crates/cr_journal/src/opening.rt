@@ -21,7 +21,7 @@ use std::alloc::{AllocError, Global};
 pub enum OpenError {
     /// The disk failed, which it counted.
     Failed,
-    /// The disk failed while an empty file was made a journal, which it counted. What the file has may be none.
+    /// The disk failed while an empty file was made a journal, which it counted. The file may have no bytes, or some.
     NotMade,
     /// The file is no journal.
     NoJournal,
@@ -51,24 +51,24 @@ impl From<AllocError> for OpenError {
     }
 }
 
-/// What stands at a gate.
+/// What is at a gate.
 #[derive(Clone, Copy, PartialEq, Eq)]
 pub(crate) enum Gate {
     /// A gate that isn't open: the journal ends here.
     Closed,
-    /// An open gate, and behind it a payload of so many bytes.
+    /// An open gate, and after it a payload of so many bytes.
     Open(u64),
-    /// No gate, or an open one with no whole payload behind it.
+    /// No gate, or an open one with no whole payload after it.
     Cut,
 }
 
 /// The bytes with which a journal begins.
 const MAGIC: [u8; 8] = *b"CONFDJ01";
 
-/// A gate and the length behind it.
+/// A gate and the length after it.
 const HEAD: usize = 9;
 
-/// One read into the bytes behind the first `filled`.
+/// Reads once into the bytes after the first `filled`.
 fn read_behind<D: Disk>(disk: &mut D, at: u64, bytes: &mut [u8], filled: usize) -> ReadStep
     requires some { filled < length bytes.old }
     requires near { at ≤ 2 ^ 62 }
@@ -82,7 +82,7 @@ fn read_behind<D: Disk>(disk: &mut D, at: u64, bytes: &mut [u8], filled: usize) 
     disk.read_at(at + filled as u64, &mut bytes[filled..])
 }
 
-/// Reads bytes from `at` on until there are as many as wanted, or there are no more. Answers how many there are.
+/// Reads bytes from `at` on until there are as many as wanted, or there are no more. Returns how many there are.
 fn fill<D: Disk>(disk: &mut D, at: u64, bytes: &mut [u8]) -> Result<usize, DiskFailed>
     requires { at ≤ 2 ^ 62 }
     ensures len { length bytes.new ≡ length bytes.old }
@@ -104,7 +104,7 @@ fn fill<D: Disk>(disk: &mut D, at: u64, bytes: &mut [u8]) -> Result<usize, DiskF
     Ok(filled)
 }
 
-/// The open gate with which some bytes begin, by the eight behind it, or all where they are fewer, and by how many
+/// Reads the open gate with which some bytes begin, by the eight after it, or all if there are fewer, and by how many
 /// bytes there are.
 fn payload_in(behind: &[u8], many: u64) -> Gate
     ensures gate { (bytes : List ℕ) → take 9 bytes ≡ 1 ∷ behind.now → length bytes ≡ many → GateRead result bytes }
@@ -120,8 +120,8 @@ fn payload_in(behind: &[u8], many: u64) -> Gate
     Gate::Open(len)
 }
 
-/// The gate with which some bytes begin, by the first nine of them, or all where they are fewer, and by how many there
-/// are.
+/// Reads the gate with which some bytes begin, by the first nine of them, or all if there are fewer, and by how many
+/// there are.
 fn gate_in(head: &[u8], many: u64) -> Gate
     ensures gate { (bytes : List ℕ) → take 9 bytes ≡ head.now → length bytes ≡ many → GateRead result bytes }
     ensures fits { (len : ℕ) → result ≡ Open len → 9 + len ≤ many }
@@ -133,7 +133,7 @@ fn gate_in(head: &[u8], many: u64) -> Gate
     }
 }
 
-/// The gate at an offset of a file that is so long.
+/// Reads the gate at an offset of a file of `size` bytes.
 fn read_gate<D: Disk>(disk: &mut D, at: u64, size: u64) -> Result<Gate, DiskFailed>
     requires within { (at ≤ size) × (size ≤ 2 ^ 62) }
     requires size { IsTrue D.tells → size ≡ length (D.seen disk.old) }
@@ -152,7 +152,7 @@ fn read_gate<D: Disk>(disk: &mut D, at: u64, size: u64) -> Result<Gate, DiskFail
     Ok(gate_in(&head[..filled], size - at))
 }
 
-/// So many bytes from an offset on, which a file has.
+/// Reads so many bytes from an offset on, which the file has.
 fn read_payload<D: Disk>(
     alloc: Global,
     disk: &mut D,
@@ -177,7 +177,7 @@ fn read_payload<D: Disk>(
     Ok(bytes)
 }
 
-/// Reads the group behind an open gate, whose payload has so many bytes, behind the rows that are there.
+/// Reads the group at an open gate, whose payload has so many bytes, and adds its rows to those that are there.
 fn read_group<D: Disk>(
     alloc: Global,
     disk: &mut D,
@@ -203,7 +203,7 @@ fn read_group<D: Disk>(
     Ok(())
 }
 
-/// Reads the groups behind the magic of a file that is so long. The offset of the closed gate.
+/// Reads the groups after the magic of a file of `size` bytes. Returns the offset of the closed gate.
 fn read_groups<D: Disk>(
     alloc: Global,
     disk: &mut D,
@@ -238,7 +238,7 @@ fn read_groups<D: Disk>(
     Err(OpenError::NoJournal)
 }
 
-/// Whether a file begins as a journal does.
+/// Returns whether a file begins as a journal does.
 fn begins<D: Disk>(disk: &mut D) -> Result<bool, DiskFailed>
     ensures begun { IsTrue D.tells → IfOk result (λ is. IsTrue is ↔ (take 8 (D.seen disk.old) ≡ magic)) }
     ensures seen { IsTrue D.tells → D.seen disk.new ≡ D.seen disk.old }
@@ -251,7 +251,7 @@ fn begins<D: Disk>(disk: &mut D) -> Result<bool, DiskFailed>
     Ok(front == MAGIC.as_slice())
 }
 
-/// Makes a journal of no groups of an empty file. The offset of its gate.
+/// Makes a journal of no groups of an empty file. Returns the offset of its gate.
 fn make<D: Disk>(disk: &mut D) -> Result<u64, DiskFailed>
     requires { IsTrue D.tells → D.seen disk.old ≡ [] }
     ensures gate { IfOk result (λ gate. gate ≡ 8) }
@@ -264,7 +264,7 @@ fn make<D: Disk>(disk: &mut D) -> Result<u64, DiskFailed>
     Ok(8)
 }
 
-/// Reads the groups of a file that is so long, which isn't empty, once it is synced. The offset of its gate.
+/// Syncs a file of `size` bytes, which isn't empty, and reads its groups. Returns the offset of its gate.
 fn read_all<D: Disk>(
     alloc: Global,
     disk: &mut D,
@@ -291,7 +291,7 @@ fn read_all<D: Disk>(
     read_groups(alloc, disk, size, rows)
 }
 
-/// Makes a journal of an empty file, or reads the groups of one that isn't. The offset of its gate.
+/// Makes a journal of an empty file, or reads the groups of one that isn't empty. Returns the offset of its gate.
 pub(crate) fn open_or_make<D: Disk>(
     alloc: Global,
     disk: &mut D,

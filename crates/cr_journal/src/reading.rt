@@ -8,7 +8,7 @@ ghost use Rattle.cr_journal.specs.Reading.{Finds, number_at, front_of, field_at,
 use cr_base::{Blob, Row};
 use std::alloc::{AllocError, Global};
 
-/// A number, and what stands behind it.
+/// Reads a number. Returns it and the bytes after it.
 #[tactic(auto, unfolding(crate::specs::Reading::number_at))]
 pub(crate) fn number_at(bytes: &[u8]) -> Option<(u64, &[u8])>
     ensures { Finds (λ x. (x.0, x.1.now)) result (number_at bytes.now) }
@@ -23,7 +23,7 @@ pub(crate) fn number_at(bytes: &[u8]) -> Option<(u64, &[u8])>
     Some((number, rest))
 }
 
-/// So many bytes, and what stands behind them.
+/// Splits so many bytes off the front. Returns them and the bytes after them.
 fn front_of(n: u64, bytes: &[u8]) -> Option<(&[u8], &[u8])>
     ensures { Finds (λ x. (x.0.now, x.1.now)) result (front_of n bytes.now) }
 {
@@ -33,7 +33,7 @@ fn front_of(n: u64, bytes: &[u8]) -> Option<(&[u8], &[u8])>
     Some(bytes.split_at(n as usize))
 }
 
-/// Bytes behind their length, and what stands behind them.
+/// Reads bytes after their length. Returns them and the bytes after them.
 #[tactic(auto, unfolding(crate::specs::Reading::field_at))]
 fn field_at(bytes: &[u8]) -> Option<(&[u8], &[u8])>
     ensures { Finds (λ x. (x.0.now, x.1.now)) result (field_at bytes.now) }
@@ -42,7 +42,7 @@ fn field_at(bytes: &[u8]) -> Option<(&[u8], &[u8])>
     front_of(n, rest)
 }
 
-/// The ten numbers of a row, and what stands behind them.
+/// Reads the ten numbers of a row. Returns them and the bytes after them.
 #[tactic(auto, unfolding(crate::specs::Reading::numbers_at))]
 fn numbers_at(bytes: &[u8]) -> Option<([u64; 10], &[u8])>
     ensures { Finds (λ x. (x.0, x.1.now)) result (numbers_at 10 bytes.now) }
@@ -60,7 +60,7 @@ fn numbers_at(bytes: &[u8]) -> Option<([u64; 10], &[u8])>
     Some(([kind, maker, more, at, num, n1, n2, n3, n4, n5], rest))
 }
 
-/// What a row is made of, and what stands behind it in the bytes.
+/// What a row is made of, and the bytes after it.
 #[derive(Clone, Copy)]
 struct Parts<'a> {
     numbers: [u64; 10],
@@ -70,7 +70,7 @@ struct Parts<'a> {
     rest: &'a [u8],
 }
 
-/// The parts of the row with which the bytes begin.
+/// Reads the parts of the row with which the bytes begin.
 #[tactic(auto, unfolding(crate::specs::Reading::row_at))]
 fn parts_at(bytes: &[u8]) -> Option<Parts<'_>>
     ensures { Finds (λ p. (row_of p.numbers p.mark.now p.b1.now p.b2.now, p.rest.now)) result (row_at bytes.now) }
@@ -88,7 +88,7 @@ fn parts_at(bytes: &[u8]) -> Option<Parts<'_>>
     })
 }
 
-/// The parts of the row with which the bytes begin; none where they begin with no row.
+/// Reads the parts of the row with which the bytes begin; `None` if they begin with no row.
 fn next_row(bytes: &[u8]) -> Option<Parts<'_>>
     ensures found { IfSome result (λ p.
         (bytes.now ≡ row_text (row_of p.numbers p.mark.now p.b1.now p.b2.now) ++ p.rest.now)
@@ -98,7 +98,11 @@ fn next_row(bytes: &[u8]) -> Option<Parts<'_>>
     parts_at(bytes)
 }
 
-/// These bytes, held once.
+/// Copies these bytes into a blob, once.
+///
+/// # Errors
+///
+/// If memory runs out.
 fn blob_of(alloc: Global, bytes: &[u8]) -> Result<Blob, AllocError>
     ensures { IfOk result (λ blob. blob ≡ bytes.now) }
 {
@@ -108,7 +112,11 @@ fn blob_of(alloc: Global, bytes: &[u8]) -> Result<Blob, AllocError>
     Blob::from_slice(alloc, bytes)
 }
 
-/// The row of these parts.
+/// Makes the row of these parts.
+///
+/// # Errors
+///
+/// If memory runs out.
 fn row_of(alloc: Global, parts: &Parts<'_>) -> Result<Row, AllocError>
     ensures { IfOk result (λ row. row ≡ row_of parts.now.numbers parts.now.mark.now parts.now.b1.now parts.now.b2.now) }
 {
@@ -133,7 +141,11 @@ fn row_of(alloc: Global, parts: &Parts<'_>) -> Result<Row, AllocError>
     })
 }
 
-/// Puts the rows of a payload behind those that are there. Answers whether the payload is that of a group.
+/// Adds the rows of a payload to those that are there. Returns whether the payload is that of a group.
+///
+/// # Errors
+///
+/// If memory runs out.
 pub(crate) fn read_rows(
     alloc: Global,
     bytes: &[u8],

@@ -22,8 +22,10 @@ use std::snapshot::Snapshot;
 
 /// Opens the files of disks as journals.
 ///
-/// Contracts see its disks, how many files were opened that are no journals, whether the last that was to be opened is
-/// none, or was left half made, and the disk of the journal that was opened last, as it was then.
+/// # Model
+///
+/// Its disks; how many files were refused as no journals; whether the last that was to be opened is none, or was left
+/// half made; and the disk of the journal that was opened last, as it was then.
 #[derive(Drop)]
 pub struct JournalShelf<D: Disks> {
     alloc: Global,
@@ -50,7 +52,7 @@ impl<D: Disks> Model for JournalShelf<D> {
     } };
 }
 
-/// Counts a file where it is no journal. Whether it was one.
+/// Counts a file if it is no journal, and returns whether it was counted.
 fn refuse(refused: &mut u64, error: OpenError) -> bool
     ensures counted { refused.old ≤ refused.new }
     ensures none { IsTrue result → Rises refused.old refused.new × (error ≡ NoJournal) }
@@ -64,7 +66,7 @@ fn refuse(refused: &mut u64, error: OpenError) -> bool
 }
 
 impl<D: Disks> JournalShelf<D> {
-    /// A shelf over these disks. It opens no file yet.
+    /// Creates a shelf over these disks. It opens no file yet.
     pub fn new(alloc: Global, disks: D) -> Self
         ensures disks { result.disks ≡ disks }
         ensures refused { result.refused ≡ 0 }
@@ -81,22 +83,22 @@ impl<D: Disks> JournalShelf<D> {
         }
     }
 
-    /// Its disks.
+    /// Lends its disks.
     pub fn disks(&self) -> &D
         ensures { result.now ≡ self.now.disks }
     {
         &self.disks
     }
 
-    /// Whether the last file that it was to open was refused since it is no journal.
+    /// Returns whether the last file that was to be opened was refused because it is no journal.
     pub fn found_none(&self) -> bool
         ensures { result ≡ self.now.found_none }
     {
         self.found_none
     }
 
-    /// Whether the last file that it was to open was to be made a journal, which failed, and what was made of it could
-    /// not be taken away.
+    /// Returns whether making a journal of the last file that was to be opened failed, and what was made could not be
+    /// taken away.
     pub fn left_half_made(&self) -> bool
         ensures { result ≡ self.now.left_half_made }
     {
@@ -119,8 +121,8 @@ impl<D: Disks> Shelf for JournalShelf<D> {
 
     ghost left = { λ s path image. D.left s.disks path (opened_at D.Disk.moment s) image };
 
-    /// A file that is missing or empty becomes a journal of no rows, or stays empty where it can't be made one, unless
-    /// what was made can't be taken away again. All of it is read, once it is synced.
+    /// Opens the file as a journal. A file that is missing or empty becomes a journal of no rows. If it can't be made
+    /// one, it stays empty, unless what was made can't be taken away again. All of it is read, once it is synced.
     fn open(&mut self, path: &str) -> Result<JournalKeeper<D::Disk>, KeeperError>
         ensures found { IfOk result (λ k. IfSome (rows_at D.Disk.tells (D.files self.old.disks) path.now)
             (λ there. Some k.rows ≡ Some there)) }
@@ -181,7 +183,7 @@ impl<D: Disks> Shelf for JournalShelf<D> {
         }
     }
 
-    /// What was appended stands in the file before.
+    /// Takes a keeper back. What was appended is in the file already.
     fn shut(&mut self, path: &str, keeper: JournalKeeper<D::Disk>) {
         self.disks.shut(path, keeper.into_disk());
     }

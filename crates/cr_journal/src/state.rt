@@ -10,12 +10,12 @@ pub(crate) struct Journal<D: Disk> {
     pub(crate) disk: D,
     /// The offset of the gate.
     pub(crate) gate: u64,
-    /// Whether the gate may be open, since an append failed after its payload was synced.
+    /// The gate may be open, since an append failed after its payload was synced.
     pub(crate) in_doubt: bool,
 }
 
 impl<D: Disk> Journal<D> {
-    /// Its disk.
+    /// Returns its disk.
     pub(crate) fn into_disk(self) -> D
         ensures { result ≡ self.disk }
     {

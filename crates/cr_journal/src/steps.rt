@@ -6,7 +6,7 @@ ghost use Rattle.cr_journal.specs.Gates.{SameTo, SameBut};
 
 use cr_disks::{Disk, DiskFailed};
 
-/// Writes behind what is synced, and syncs: the first two calls of an append.
+/// Writes after what is synced, and syncs: the first two calls of an append.
 pub(crate) fn stage<D: Disk>(disk: &mut D, at: u64, block: &[u8]) -> Result<(), DiskFailed>
     requires inside { IsTrue D.tells → at ≤ length (D.seen disk.old) }
     requires synced { IsTrue D.tells → (image : List ℕ) → D.may_leave disk.old image

@@ -1,4 +1,4 @@
-//! The block of a group: its payload behind its length, and a closed gate.
+//! The block of a group: its payload after its length, and a closed gate.
 ghost use Rattle.std.specs.Prelude.{◌≡◌, ◌++◌, ◌<◌, ◌≤◌, ◌^◌, [], ◌∷◌, length, drop, IfOk, OnOk};
 ghost use Rattle.std.specs.List.{flat_map};
 ghost use Rattle.cr_journal.specs.Grammar.{number, field, row_text, payload, AreNumbers, FitsRow, FitsGroup};
@@ -6,6 +6,11 @@ ghost use Rattle.cr_journal.specs.Grammar.{number, field, row_text, payload, Are
 use cr_base::Row;
 use std::alloc::{AllocError, Global};
 
+/// Appends a number, as eight bytes.
+///
+/// # Errors
+///
+/// If memory runs out.
 #[tactic(auto, unfolding(crate::specs::Grammar::number))]
 fn put_number(out: &mut Vec<u8>, n: u64) -> Result<(), AllocError>
     ensures { OnOk result (out.new.items ≡ out.old.items ++ number n) }
@@ -13,6 +18,11 @@ fn put_number(out: &mut Vec<u8>, n: u64) -> Result<(), AllocError>
     out.extend_from_slice(&n.to_be_bytes())
 }
 
+/// Appends bytes after their length.
+///
+/// # Errors
+///
+/// If memory runs out.
 fn put_field(out: &mut Vec<u8>, bytes: &[u8]) -> Result<(), AllocError>
     ensures put { OnOk result (out.new.items ≡ out.old.items ++ field bytes.now) }
     ensures sized { length bytes.now < 2 ^ 64 }
@@ -21,6 +31,11 @@ fn put_field(out: &mut Vec<u8>, bytes: &[u8]) -> Result<(), AllocError>
     out.extend_from_slice(bytes)
 }
 
+/// Appends the numbers, eight bytes each.
+///
+/// # Errors
+///
+/// If memory runs out.
 fn put_numbers(out: &mut Vec<u8>, numbers: &[u64]) -> Result<(), AllocError>
     ensures put { OnOk result (out.new.items ≡ out.old.items ++ flat_map number numbers.now) }
     ensures fit { AreNumbers numbers.now }
@@ -31,6 +46,11 @@ fn put_numbers(out: &mut Vec<u8>, numbers: &[u64]) -> Result<(), AllocError>
     Ok(())
 }
 
+/// Appends a row.
+///
+/// # Errors
+///
+/// If memory runs out.
 fn put_row(out: &mut Vec<u8>, row: &Row) -> Result<(), AllocError>
     ensures put { OnOk result (out.new.items ≡ out.old.items ++ row_text row.now) }
     ensures fits { OnOk result (FitsRow row.now) }
@@ -44,7 +64,11 @@ fn put_row(out: &mut Vec<u8>, row: &Row) -> Result<(), AllocError>
     put_field(out, row.b2.as_slice())
 }
 
-/// The rows of a group behind 8 bytes, which are for their length.
+/// Writes the rows of a group after 8 bytes, which are for their length.
+///
+/// # Errors
+///
+/// If memory runs out.
 fn payload_behind(alloc: Global, rows: &[Row]) -> Result<Vec<u8>, AllocError>
     ensures put { IfOk result (λ bytes. bytes.items ≡ (0 ∷ 0 ∷ 0 ∷ 0 ∷ 0 ∷ 0 ∷ 0 ∷ 0 ∷ []) ++ payload rows.now) }
     ensures fits { IfOk result (λ bytes. FitsGroup rows.now) }
@@ -57,7 +81,7 @@ fn payload_behind(alloc: Global, rows: &[Row]) -> Result<Vec<u8>, AllocError>
     Ok(bytes)
 }
 
-/// Puts the length of what stands behind the first 8 bytes into these.
+/// Writes the length of what follows the first 8 bytes into these.
 fn put_length(bytes: &mut [u8])
     requires { 8 ≤ length bytes.old }
     ensures { bytes.new ≡ field (drop 8 bytes.old) }
@@ -66,7 +90,11 @@ fn put_length(bytes: &mut [u8])
     bytes[..8].copy_from_slice(&len.to_be_bytes());
 }
 
-/// The block of a group.
+/// Makes the block of a group: its payload after its length, and a closed gate.
+///
+/// # Errors
+///
+/// If memory runs out.
 pub(crate) fn block_of(alloc: Global, rows: &[Row]) -> Result<Vec<u8>, AllocError>
     ensures block { IfOk result (λ block. block.items ≡ field (payload rows.now) ++ 0 ∷ []) }
     ensures fits { IfOk result (λ block. FitsGroup rows.now × (length (payload rows.now) < 2 ^ 64)) }

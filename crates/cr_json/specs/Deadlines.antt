@@ -7,7 +7,7 @@ use Rattle.cr_base.specs.declared.words.Phase.{Phase}
 use Rattle.cr_json.specs.Json.{Member, member_of, object_text}
 use Rattle.cr_json.specs.Times.{until_text}
 
--- its keys in the order of their bytes
+-- the members of a deadline, in the order of their keys' bytes
 unfoldable pub deadline_members : Phase → Option ℕ → List Member
 deadline_members phase until =
     member_of (codes "phase") (Some (quoted (phase_name phase)))

@@ -43,7 +43,7 @@ decided_text decision = quoted (decided_word decision)
 
 -- ---- texts with commas
 
--- what stands before a text of a list
+-- the comma before a text of a list, unless it is the first
 unfoldable pub comma : Bool → List ℕ
 comma is_first = if is_first then [] else codes ","
 
@@ -84,13 +84,13 @@ abbrev pub member_of : List ℕ → Option (List ℕ) → List Member
 member_of key None = []
 member_of key (Some value) = record { key = key; value = value } ∷ []
 
--- an object that has a list alone
+-- an object that has only a list
 unfoldable pub list_alone : List ℕ → List (List ℕ) → List ℕ
 list_alone key texts = object_text (member_of key (Some (array_text texts)))
 
 -- ---- an object that is being written
 
--- whether the next member is the first, behind these
+-- whether the next member, after these, is the first
 abbrev pub still_first : Bool → List Member → Bool
 still_first is_first [] = is_first
 still_first is_first (member ∷ rest) = false

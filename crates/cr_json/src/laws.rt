@@ -1,4 +1,4 @@
-//! Laws over the definitions alone.
+//! Theorems over the definitions.
 ghost use Rattle.std.specs.Prelude.{◌≡◌, codes};
 ghost use Rattle.cr_json.specs.Times.{time_text};
 

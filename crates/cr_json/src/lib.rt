@@ -3,11 +3,8 @@
 //! # Proved
 //!
 //! - Unless memory runs out, each call appends exactly the defined text of its member, or nothing if it is absent:
-//!   `Object::number`, `Object::string`, `Object::bid`, `Object::label` (`adds`); `Object::list`, `Object::fixed`,
-//!   `Object::truth`, `Object::told`, `append_list_alone`.
-//! - A value in JSON is the text of its `Value`. A deadline has the digits of `jiff`'s civil time in UTC:
-//!   `add_deadline` (`adds`). Strings are escaped as `json` defines.
-//! - Six times are written out: `law_times_written_out`.
+//!   `Object::number`, `Object::string` (`adds`), and so on. A deadline has the digits of `jiff`'s civil time in UTC:
+//!   `add_deadline` (`adds`); six times are written out: `law_times_written_out`.
 //! - Short members take at most the bytes that `room` says, and memory only if that room is missing: `Takes`.
 #![tactic(auto)]
 

@@ -1,9 +1,14 @@
--- What a command draws that names a paper and a user, by reads of the tables; `user` is whom they have for the name.
+-- What a command draws that names a paper and a user, by reads of the tables.
 use Rattle.std.proofs.Common.{ℕ, Bool, true, false, ◌≡◌, ◌+◌, List, ◌∷◌, refl, sym, ap, subst, ◌∙◌, ◌||◌, ◌&&◌, Option}
 use Rattle.std.proofs.Common.{Some, None, Result, Ok}
 use Rattle.std.specs.Prelude.{IsSome, is_some, not, unwrap_or}
 use Rattle.std.specs.List.{list_any}
 use Rattle.std.specs.Option.{option_map, option_map_or, option_and_then}
+use Rattle.cr_base.specs.declared.entry.Entry.TheVariants as entries
+use Rattle.cr_base.specs.Drawn.{alone}
+use Rattle.cr_base.specs.Calls.{resolved_by}
+use Rattle.cr_base.specs.Judging.{resolved_by_role}
+use Rattle.cr_base.specs.declared.resolved.ResolvedCommand.TheVariants as commands
 use Rattle.cr_base.specs.declared.entry.Account.{Account}
 use Rattle.cr_base.specs.declared.entry.Stamp.{Stamp}
 use Rattle.cr_base.specs.declared.pairs.Order.TheVariants.{ByPaper}
@@ -16,8 +21,7 @@ use Rattle.cr_base.specs.declared.words.Role.{Role}
 use Rattle.cr_base.specs.Accounts.{role_at}
 use Rattle.cr_base.specs.Checks.{Check, NamedPaper, ◌breaks◌, judged, conflict_case, conflict_checks, assign_checks}
 use Rattle.cr_base.specs.Checks.{unassign_checks, invite_checks, uninvite_checks}
-use Rattle.cr_base.specs.Drawn.{Drawn, conflict_drawn, assignment_drawn, unassignment_drawn, invitation_drawn}
-use Rattle.cr_base.specs.Drawn.{uninvitation_drawn}
+use Rattle.cr_base.specs.Drawn.{Drawn}
 use Rattle.cr_base.specs.Invites.{InvitesState, is_invited_in}
 use Rattle.cr_base.specs.Lists.{at_some, is_number}
 use Rattle.cr_base.specs.Pairs.{users_tied_to}
@@ -36,8 +40,7 @@ use Rattle.cr_assign.specs.Targets as seats
 use Rattle.cr_conflicts.specs.Targets as ties
 use Rattle.cr_view.proofs.JudgeLaws.{made_of, judged-made}
 use Rattle.cr_judge.specs.declared.named.Named.{Named}
-use Rattle.cr_judge.specs.Named.{there_in, named_at, target_with, written_at, asked_at, conflict_at, assignment_at}
-use Rattle.cr_judge.specs.Named.{unassignment_at, invitation_at, uninvitation_at}
+use Rattle.cr_judge.specs.Named.{there_in, named_at, target_with, written_at, asked_at}
 use Rattle.cr_judge.proofs.NamedLaws.{there-judged}
 
 -- ---- the user
@@ -149,8 +152,9 @@ module _ (t : Tables) (stamp : Stamp) where
         → (external : Bool) → external ≡ external_of named.paper target → (kept : Result (Unit {0}) Rule)
         → kept ≡ judged (conflict_checks named.by told (ties.target_of seen maker named.paper target external) on late)
         tt
-        → made_of (λ (done : Unit {0}). conflict_drawn stamp (unwrap_or named.paper 0) (unwrap_or user 0) on) kept
-        ≡ conflict_at t stamp paper user on
+        → made_of (λ (done : Unit {0}). alone stamp (entries.Conflict (unwrap_or named.paper 0) (unwrap_or user 0) on))
+        kept
+        ≡ resolved_by_role t (resolved_by stamp (commands.SetConflict paper user on))
     conflict-drawn on late when seen same external outside kept judges =
         judged-made (conflict_checks named.by told (ties.target_of seen maker named.paper target external) on past)
         (λ (done : Unit {0}). made named.paper) tt kept
@@ -175,7 +179,7 @@ module _ (t : Tables) (stamp : Stamp) where
         past = is_late_in t.stage stamp.at
 
         made : Option ℕ → Drawn
-        made at = conflict_drawn stamp (unwrap_or at 0) (unwrap_or user 0) on
+        made at = alone stamp (entries.Conflict (unwrap_or at 0) (unwrap_or user 0) on)
 
         asked : Option ℕ → Result Drawn Rule
         asked at =
@@ -218,12 +222,13 @@ module _ (t : Tables) (stamp : Stamp) where
         → conflicted ≡ at_some (is_conflicted_in t.ties user) named.paper → (r : Result ℕ Rule)
         → r ≡ judged (assign_checks named.by told (seats.target_of seen invites conflicted named.paper target)
         (seats.labels_at seen named.paper)) (seats.labels_at seen named.paper + 1)
-        → made_of (assignment_drawn stamp (unwrap_or named.paper 0) (unwrap_or user 0) kind) r
-        ≡ assignment_at t stamp paper user kind
+        → made_of (λ (ordinal : ℕ). alone stamp (entries.Assigned (unwrap_or named.paper 0) (unwrap_or user 0) kind
+        ordinal)) r
+        ≡ resolved_by_role t (resolved_by stamp (commands.Assign paper user kind))
     assignment-drawn kind seen same invites asks conflicted clear r judges =
         judged-made (assign_checks named.by told (seats.target_of seen invites conflicted named.paper target)
         (seats.labels_at seen named.paper))
-        (assignment_drawn stamp (unwrap_or named.paper 0) (unwrap_or user 0) kind)
+        (λ (ordinal : ℕ). alone stamp (entries.Assigned (unwrap_or named.paper 0) (unwrap_or user 0) kind ordinal))
         (seats.labels_at seen named.paper + 1) r judges
         ∙ ap
         (λ (x : SeatsState).
@@ -247,7 +252,7 @@ module _ (t : Tables) (stamp : Stamp) where
         ∙ there-judged t.papers asked due refl (λ (at : Option ℕ). refl) some paper
       where
         made : Option ℕ → ℕ → Drawn
-        made at = assignment_drawn stamp (unwrap_or at 0) (unwrap_or user 0) kind
+        made at = λ (ordinal : ℕ). alone stamp (entries.Assigned (unwrap_or at 0) (unwrap_or user 0) kind ordinal)
 
         labels : Option ℕ → ℕ
         labels at = seats.labels_at t.seats at
@@ -282,11 +287,12 @@ module _ (t : Tables) (stamp : Stamp) where
         → (written : Bool) → written ≡ written_at t user named.paper → (r : Result ℕ Rule)
         → r ≡ judged (unassign_checks named.by told (seats.target_of seen invites false named.paper target) written)
         (seats.held_at seen named.paper target)
-        → made_of (unassignment_drawn stamp (unwrap_or named.paper 0) (unwrap_or user 0)) r ≡ unassignment_at t stamp
-        paper user
+        → made_of (λ (n : ℕ). alone stamp (entries.Unassigned (unwrap_or named.paper 0) (unwrap_or user 0) n)) r ≡
+        resolved_by_role t (resolved_by stamp (commands.Unassign paper user))
     unassignment-drawn seen same invites asks written is r judges =
         judged-made (unassign_checks named.by told (seats.target_of seen invites false named.paper target) written)
-        (unassignment_drawn stamp (unwrap_or named.paper 0) (unwrap_or user 0)) (seats.held_at seen named.paper target)
+        (λ (n : ℕ). alone stamp (entries.Unassigned (unwrap_or named.paper 0) (unwrap_or user 0) n)) (seats.held_at seen
+        named.paper target)
         r judges
         ∙ ap
         (λ (x : SeatsState). judged (unassign_checks named.by told
@@ -310,7 +316,7 @@ module _ (t : Tables) (stamp : Stamp) where
         ∙ there-judged t.papers asked due refl (λ (at : Option ℕ). refl) some paper
       where
         made : Option ℕ → ℕ → Drawn
-        made at = unassignment_drawn stamp (unwrap_or at 0) (unwrap_or user 0)
+        made at = λ (ordinal : ℕ). alone stamp (entries.Unassigned (unwrap_or at 0) (unwrap_or user 0) ordinal)
 
         seat : Option ℕ → ℕ
         seat at = unwrap_or (ordinal_in t.seats user (unwrap_or at 0)) 0
@@ -346,8 +352,8 @@ module _ (t : Tables) (stamp : Stamp) where
         → conflicted ≡ at_some (is_conflicted_in t.ties user) named.paper → (kept : Result (Unit {0}) Rule)
         → kept ≡ judged (invite_checks named.by told (seats.target_of seen invites conflicted named.paper target)
         (seats.invited_at invites named.paper target)) tt
-        → made_of (λ (done : Unit {0}). invitation_drawn stamp (unwrap_or named.paper 0) (unwrap_or user 0)) kept
-        ≡ invitation_at t stamp paper user
+        → made_of (λ (done : Unit {0}). alone stamp (entries.Invited (unwrap_or named.paper 0) (unwrap_or user 0))) kept
+        ≡ resolved_by_role t (resolved_by stamp (commands.Invite paper user))
     invitation-drawn seen invites asks conflicted clear kept judges =
         judged-made (invite_checks named.by told (seats.target_of seen invites conflicted named.paper target)
         (seats.invited_at invites named.paper target))
@@ -369,7 +375,7 @@ module _ (t : Tables) (stamp : Stamp) where
         ∙ there-judged t.papers asked due refl (λ (at : Option ℕ). refl) some paper
       where
         made : Option ℕ → Drawn
-        made at = invitation_drawn stamp (unwrap_or at 0) (unwrap_or user 0)
+        made at = alone stamp (entries.Invited (unwrap_or at 0) (unwrap_or user 0))
 
         asked : Option ℕ → Result Drawn Rule
         asked at =
@@ -403,8 +409,9 @@ module _ (t : Tables) (stamp : Stamp) where
         → (kept : Result (Unit {0}) Rule)
         → kept ≡ judged (uninvite_checks named.by told (seats.target_of seen invites false named.paper target)
         (seats.invited_at invites named.paper target)) tt
-        → made_of (λ (done : Unit {0}). uninvitation_drawn stamp (unwrap_or named.paper 0) (unwrap_or user 0)) kept
-        ≡ uninvitation_at t stamp paper user
+        → made_of (λ (done : Unit {0}). alone stamp (entries.Uninvited (unwrap_or named.paper 0) (unwrap_or user 0)))
+        kept
+        ≡ resolved_by_role t (resolved_by stamp (commands.Uninvite paper user))
     uninvitation-drawn seen same invites asks kept judges =
         judged-made (uninvite_checks named.by told (seats.target_of seen invites false named.paper target)
         (seats.invited_at invites named.paper target))
@@ -427,7 +434,7 @@ module _ (t : Tables) (stamp : Stamp) where
         ∙ there-judged t.papers asked due refl (λ (at : Option ℕ). refl) some paper
       where
         made : Option ℕ → Drawn
-        made at = uninvitation_drawn stamp (unwrap_or at 0) (unwrap_or user 0)
+        made at = alone stamp (entries.Uninvited (unwrap_or at 0) (unwrap_or user 0))
 
         asked : Option ℕ → Result Drawn Rule
         asked at =

@@ -1,21 +1,21 @@
 -- What a command comes to, by the tables.
-use Rattle.std.proofs.Common.{ℕ, true, false, ◌≡◌, List, refl, sym, ap, ◌∙◌, Option, Some, None, Result, Ok, Err, IfOk}
+use Rattle.std.proofs.Common.{ℕ, ◌≡◌, List, refl, sym, ap, ◌∙◌, Option, Some, None, Result, Ok, Err, IfOk}
 use Rattle.std.specs.Prelude.{IsErrAnd}
 use Rattle.std.proofs.lemmas.Bool.{true≢false}
-use Rattle.cr_base.specs.declared.command.Call.{Call}
-use Rattle.cr_base.specs.declared.command.Command.{Command}
-use Rattle.cr_base.specs.declared.command.Command.TheVariants.{Register, Tag}
 use Rattle.cr_base.specs.declared.entry.Account.{Account}
 use Rattle.cr_base.specs.declared.entry.Entry.{Entry}
 use Rattle.cr_base.specs.declared.entry.Stamp.{Stamp}
 use Rattle.cr_base.specs.declared.reply.Rule.{Rule}
-use Rattle.cr_base.specs.Calls.{call_by, stamp_of}
+use Rattle.cr_base.specs.declared.resolved.ResolvedCall.{ResolvedCall}
+use Rattle.cr_base.specs.declared.resolved.ResolvedCommand.{ResolvedCommand}
+use Rattle.cr_base.specs.declared.resolved.ResolvedCommand.TheVariants.{Register}
+use Rattle.cr_base.specs.Calls.{resolved_by, stamp_by}
 use Rattle.cr_base.specs.Drawn.{Drawn}
-use Rattle.cr_base.specs.Judging.{judge_by_role}
+use Rattle.cr_base.specs.Judging.{resolved_by_role}
 use Rattle.cr_base.specs.Papers.{paper_count}
 use Rattle.cr_base.specs.Tables.{Tables, FitInTurn}
 use Rattle.cr_base.specs.Ties.{AreWithin}
-use Rattle.cr_base.proofs.FitLaws.{judged-fits}
+use Rattle.cr_base.proofs.FitLaws.{resolved-fits}
 use Rattle.cr_judge.specs.declared.effect.Effect.{Effect}
 use Rattle.cr_judge.specs.Callers.{HasCaller}
 use Rattle.cr_judge.specs.Effects.{alone, alone_or_rule, drawn_by, drawn_or_rule, entry_or_rule, group_of}
@@ -54,29 +54,38 @@ of-entry accounts stamp judged r due is told = ap (drawn_or_rule accounts) is �
     by (Err rule) = refl
 
 -- what a user's command comes to, where it is this one
-pub command-told : (t : Tables) (stamp : Stamp) (command this : Command) (r : Result Drawn Rule) → command ≡ this
-    → r ≡ judge_by_role t (call_by stamp this) → r ≡ judge_by_role t (call_by stamp command)
-command-told t stamp command this r is h = h ∙ sym (ap (λ (c : Command). judge_by_role t (call_by stamp c)) is)
+pub command-told : (t : Tables) (stamp : Stamp) (command this : ResolvedCommand) (r : Result Drawn Rule)
+    → command ≡ this
+    → r ≡ resolved_by_role t (resolved_by stamp this) → r ≡ resolved_by_role t (resolved_by stamp command)
+command-told t stamp command this r is h =
+    h ∙ sym (ap (λ (c : ResolvedCommand). resolved_by_role t (resolved_by stamp c)) is)
 
 -- and what a call does, where it is this user's
-pub call-told : (t : Tables) (call : Call) (maker : ℕ) (r : Result Drawn Rule) → call.caller ≡ Some maker
-    → r ≡ judge_by_role t (record call { caller = Some maker }) → r ≡ judge_by_role t call
-call-told t call maker r who h = h ∙ sym (λ i. judge_by_role t (record call { caller = who i }))
+pub call-told : (t : Tables) (call : ResolvedCall) (maker : ℕ) (r : Result Drawn Rule) → call.caller ≡ Some maker
+    → r ≡ resolved_by_role t (record call { caller = Some maker }) → r ≡ resolved_by_role t call
+call-told t call maker r who h = h ∙ sym (λ i. resolved_by_role t (record call { caller = who i }))
+
+-- a registration is the same for all callers
+pub registration-told : (t : Tables) (call : ResolvedCall) (name digest : List ℕ) (r : Result Drawn Rule)
+    → call.command ≡ Register name digest
+    → r ≡ resolved_by_role t (record { caller = None; at = call.at; key = call.key; command = Register name digest })
+    → r ≡ resolved_by_role t call
+registration-told t call name digest r is h =
+    h ∙ sym (ap (λ (c : ResolvedCommand). resolved_by_role t (record call { command = c })) is)
 
 -- its entries fit, where the papers that have ties are there; a registration's are the same for all callers
-pub effect-fits : (t : Tables) → AreWithin (paper_count t.papers) t.ties → (call : Call) → HasCaller call
+pub effect-fits : (t : Tables) → AreWithin (paper_count t.papers) t.ties → (call : ResolvedCall) → HasCaller call
     → (r : Result Effect Rule)
-    → drawn_or_rule t.accounts r ≡ judge_by_role t call → IfOk r (λ effect. FitInTurn t (group_of effect))
+    → drawn_or_rule t.accounts r ≡ resolved_by_role t call → IfOk r (λ effect. FitInTurn t (group_of effect))
 effect-fits t within call has (Err rule) is = tt
 effect-fits t within call has (Ok effect) is = by call.caller call.command has (sym is)
   where
-    by : (caller : Option ℕ) (command : Command) → HasCaller (record call { caller = caller; command = command })
-        → judge_by_role t (record call { caller = caller; command = command }) ≡ Ok (drawn_by t.accounts effect)
+    by : (caller : Option ℕ) (command : ResolvedCommand)
+        → HasCaller (record call { caller = caller; command = command })
+        → resolved_by_role t (record call { caller = caller; command = command }) ≡ Ok (drawn_by t.accounts effect)
         → FitInTurn t (group_of effect)
     by (Some user) command has accepted =
-        judged-fits t within (record (stamp_of call) { maker = user }) command (drawn_by t.accounts effect) accepted
-    by None (Register name digest) has accepted = judged-fits t within (record (stamp_of call) { maker = 0 })
+        resolved-fits t within (stamp_by user call.at call.key) command (drawn_by t.accounts effect) accepted
+    by None (Register name digest) has accepted = resolved-fits t within (stamp_by 0 call.at call.key)
         (Register name digest) (drawn_by t.accounts effect) accepted
-    by None (Tag paper tag true) has accepted = absurd (true≢false (sym has))
-    by None (Tag paper tag false) has accepted = absurd (true≢false (sym has))
     by None _ has accepted = absurd (true≢false (sym has))

@@ -1,4 +1,5 @@
 pub mod AssigningLaws
+mod CoauthorLaws
 pub mod CommandLaws
 pub mod GroupLaws
 pub mod JudgedLaws

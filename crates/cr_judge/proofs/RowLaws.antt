@@ -30,10 +30,8 @@ use Rattle.cr_base.specs.Ties.{BareTies, TiesState, ties_after, ties_from, is_au
 use Rattle.cr_base.specs.Words.{is_member}
 use Rattle.cr_base.proofs.TieLaws.{within-after}
 use Rattle.cr_view.proofs.NobodyLaws.{nobody-seat}
-use Rattle.cr_judge.specs.Named.{there_in, named_at, target_with, user_named, written_at}
+use Rattle.cr_judge.specs.Named.{there_in, named_at, target_with, written_at}
 use Rattle.cr_judge.specs.Rows.{AreRowEntries}
-use Rattle.cr_judge.specs.Targets.{target_at}
-use Rattle.cr_judge.proofs.TargetLaws.{target-among}
 
 -- ---- what is left
 
@@ -164,13 +162,7 @@ module _ (t : Tables) (earlier : History) (are : AreRowEntries earlier) where
   seats-behind : seats_from t.seats earlier ≡ now.seats
   seats-behind = ap (λ (x : Tables). x.seats) (rows-mark t earlier are)
 
-  -- whom the accounts have for a name, and with which role
-  pub user-behind : (name : Option (List ℕ)) (user : Option ℕ) → user ≡ target_at t.accounts name
-      → user ≡ user_named now name
-  user-behind name user is =
-      is ∙ ap (λ (accounts : List Account). target_at accounts name) accounts-behind
-      ∙ sym (target-among now.accounts name)
-
+  -- with which role the accounts have a user
   pub target-behind : (user : Option ℕ) (target : Option (ℕ × Role)) → target ≡ target_with t.accounts user
       → target ≡ target_with now.accounts user
   target-behind user target is = is ∙ ap (λ (accounts : List Account). target_with accounts user) accounts-behind

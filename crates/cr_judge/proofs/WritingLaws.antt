@@ -5,15 +5,17 @@ use Rattle.std.specs.Prelude.{IsSome, List, is_some, map, not, unwrap_or}
 use Rattle.std.specs.Option.{option_and_then}
 use Rattle.std.proofs.lemmas.Bool.{true≢false}
 use Rattle.std.proofs.lemmas.List.{length-map}
-use Rattle.cr_base.specs.declared.command.Command.TheVariants.{Review, Respond, Comment}
+use Rattle.cr_base.specs.declared.entry.Entry.TheVariants as entries
+use Rattle.cr_base.specs.Drawn.{alone}
+use Rattle.cr_base.specs.declared.resolved.ResolvedCommand.TheVariants.{Review, Respond, Comment}
 use Rattle.cr_base.specs.declared.entry.Stamp.{Stamp}
 use Rattle.cr_base.specs.declared.form.Form.{Form}
 use Rattle.cr_base.specs.declared.reply.Rule.{Rule}
 use Rattle.cr_base.specs.declared.standing.Standing.{Standing}
-use Rattle.cr_base.specs.Calls.{call_by}
+use Rattle.cr_base.specs.Calls.{resolved_by}
 use Rattle.cr_base.specs.Checks.{NamedPaper, judged, review_checks, respond_checks, comment_checks}
-use Rattle.cr_base.specs.Drawn.{Drawn, review_drawn, response_drawn, comment_drawn}
-use Rattle.cr_base.specs.Judging.{judge_by_role}
+use Rattle.cr_base.specs.Drawn.{Drawn}
+use Rattle.cr_base.specs.Judging.{resolved_by_role}
 use Rattle.cr_base.specs.Lists.{at_some}
 use Rattle.cr_base.specs.Papers.{is_withdrawn_at}
 use Rattle.cr_base.specs.Reviews.{ReviewsState}
@@ -36,8 +38,8 @@ pub response-drawn : (t : Tables) (stamp : Stamp) (paper : Option ℕ) (named : 
     → (r : Result (Unit {0}) Rule)
     → r ≡ judged (respond_checks named.by (record { there = is_some named.paper; withdrawn = named.withdrawn })
     (is_some (response_in seen (unwrap_or named.paper 0))) late) tt
-    → made_of (λ (done : Unit {0}). response_drawn stamp (unwrap_or named.paper 0) text) r
-    ≡ judge_by_role t (call_by stamp (Respond paper text))
+    → made_of (λ (done : Unit {0}). alone stamp (entries.Responded (unwrap_or named.paper 0) text)) r
+    ≡ resolved_by_role t (resolved_by stamp (Respond paper text))
 response-drawn t stamp paper named given text late when seen same r judges =
     judged-made (respond_checks named.by told (responded named.paper) past) (λ (done : Unit {0}). made named.paper) tt r
     (judges
@@ -61,7 +63,7 @@ response-drawn t stamp paper named given text late when seen same r judges =
     responded at = is_some (response_in t.talk (unwrap_or at 0))
 
     made : Option ℕ → Drawn
-    made at = response_drawn stamp (unwrap_or at 0) text
+    made at = alone stamp (entries.Responded (unwrap_or at 0) text)
 
     due : Bool → Option ℕ → Result Drawn Rule
     due there at =
@@ -85,19 +87,21 @@ module _ (t : Tables) (stamp : Stamp) (paper : Option ℕ) (named : Named)
   pub review-drawn : (form : Form) (late : Bool) → late ≡ is_late_in t.stage stamp.at → (seen : ReviewsState)
       → seen ≡ t.reviews → (r : Result ℕ Rule)
       → r ≡ judged (review_checks named.by told late) (length (forms_by seen (unwrap_or named.paper 0) ordinal) + 1)
-      → made_of (λ (version : ℕ). review_drawn stamp (unwrap_or named.paper 0) (unwrap_or ordinal 0) version form) r
-      ≡ judge_by_role t (call_by stamp (Review paper form))
+      → made_of (λ (version : ℕ). alone stamp (entries.Reviewed (unwrap_or named.paper 0) (unwrap_or ordinal 0) version
+      form)) r
+      ≡ resolved_by_role t (resolved_by stamp (Review paper form))
   review-drawn form late when seen same r judges =
       ap
-      (λ (o : Option ℕ). made_of (λ (version : ℕ). review_drawn stamp (unwrap_or named.paper 0) (unwrap_or o 0)
-      version form) r) held
+      (λ (o : Option ℕ). made_of (λ (version : ℕ). alone stamp (entries.Reviewed (unwrap_or named.paper 0) (unwrap_or o
+      0) version form)) r) held
       ∙ numbered-drawn t stamp.maker paper named given
       (λ (s : Standing) (p : NamedPaper). review_checks s p (is_late_in t.stage stamp.at))
       (λ (s : Standing) (w : Bool) (x : Drawn). refl)
-      (λ (at : Option ℕ) (version : ℕ). review_drawn stamp (unwrap_or at 0) (unwrap_or (seat at) 0) version form)
+      (λ (at : Option ℕ) (version : ℕ). alone stamp (entries.Reviewed (unwrap_or at 0) (unwrap_or (seat at) 0) version
+      form))
       (λ (at : Option ℕ). length (forms_by t.reviews (unwrap_or at 0) (seat at)) + 1)
-      (λ (at : Option ℕ). let p : ℕ = unwrap_or at 0 in review_drawn stamp p
-      (unwrap_or (ordinal_in t.seats (Some stamp.maker) p) 0) (length (own_forms_in t (Some stamp.maker) p) + 1) form)
+      (λ (at : Option ℕ). let p : ℕ = unwrap_or at 0 in alone stamp (entries.Reviewed p (unwrap_or (ordinal_in t.seats
+      (Some stamp.maker) p) 0) (length (own_forms_in t (Some stamp.maker) p) + 1) form))
       (λ (p : ℕ). refl) r
       (judges
       ∙ ap (λ (b : Bool). judged (review_checks named.by told b)
@@ -136,19 +140,21 @@ module _ (t : Tables) (stamp : Stamp) (paper : Option ℕ) (named : Named)
       → seen ≡ t.talk → (r : Result ℕ Rule)
       → r ≡ judged (comment_checks named.by told (own_comments_in seen (Some stamp.maker)) late)
       (length (comments_in seen (unwrap_or named.paper 0)) + 1)
-      → made_of (λ (n : ℕ). comment_drawn stamp (unwrap_or named.paper 0) n ordinal text) r
-      ≡ judge_by_role t (call_by stamp (Comment paper text))
+      → made_of (λ (n : ℕ). alone stamp (entries.Commented (unwrap_or named.paper 0) n ordinal text)) r
+      ≡ resolved_by_role t (resolved_by stamp (Comment paper text))
   comment-drawn text late when seen same r judges =
-      ap (λ (o : Option ℕ). made_of (λ (n : ℕ). comment_drawn stamp (unwrap_or named.paper 0) n o text) r) held
+      ap (λ (o : Option ℕ). made_of (λ (n : ℕ). alone stamp (entries.Commented (unwrap_or named.paper 0) n o text)) r)
+      held
       ∙ numbered-drawn t stamp.maker paper named given
       (λ (s : Standing) (p : NamedPaper). comment_checks s p (own_comments_in t.talk (Some stamp.maker))
       (is_late_in t.stage stamp.at))
       (λ (s : Standing) (w : Bool) (x : Drawn). refl)
-      (λ (at : Option ℕ) (n : ℕ). comment_drawn stamp (unwrap_or at 0) n (seat at) text)
+      (λ (at : Option ℕ) (n : ℕ). alone stamp (entries.Commented (unwrap_or at 0) n (seat at) text))
       (λ (at : Option ℕ). length (comments_in t.talk (unwrap_or at 0)) + 1)
-      (λ (at : Option ℕ). let p : ℕ = unwrap_or at 0 in comment_drawn stamp p
-      (length (map comment_as_told (comments_in t.talk p)) + 1) (ordinal_in t.seats (Some stamp.maker) p) text)
-      (λ (p : ℕ). ap (λ (n : ℕ). comment_drawn stamp p (n + 1) (ordinal_in t.seats (Some stamp.maker) p) text)
+      (λ (at : Option ℕ). let p : ℕ = unwrap_or at 0 in alone stamp (entries.Commented p (length (map comment_as_told
+      (comments_in t.talk p)) + 1) (ordinal_in t.seats (Some stamp.maker) p) text))
+      (λ (p : ℕ). ap (λ (n : ℕ). alone stamp (entries.Commented p (n + 1) (ordinal_in t.seats (Some stamp.maker) p)
+      text))
       (sym (length-map (comments_in t.talk p) comment_as_told))) r
       (judges
       ∙ ap (λ (b : Bool). judged (comment_checks named.by told (own_comments_in seen (Some stamp.maker)) b)

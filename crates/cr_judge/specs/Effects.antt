@@ -9,7 +9,7 @@ use Rattle.cr_base.specs.declared.words.Role.TheVariants.{Chair}
 use Rattle.cr_base.specs.Accounts.{lines_of}
 use Rattle.cr_base.specs.Drawn.{Drawn, grouped, receipt_of}
 use Rattle.cr_base.specs.History.{History}
-use Rattle.cr_base.specs.Retries.{name_told_by}
+use Rattle.cr_base.specs.Sources.{name_told_by}
 use Rattle.cr_judge.specs.declared.effect.Effect.{Effect}
 use Rattle.cr_judge.specs.declared.effect.Rest.{Rest}
 use Rattle.cr_judge.specs.declared.effect.Rest.TheVariants as rests
@@ -19,6 +19,13 @@ abbrev pub behind : Rest → List Entry
 behind rests.Nothing = []
 behind (rests.FirstChair user) = Named user Chair ∷ []
 behind (rests.Coauthors paper users) = map (λ (user : ℕ). Coauthor paper user) users
+
+-- what its entries have alike, and the first of them
+abbrev pub stamp_in : Effect → Stamp
+stamp_in effect = effect.stamp
+
+abbrev pub first_of : Effect → Entry
+first_of effect = effect.first
 
 abbrev pub group_of : Effect → History
 group_of effect = grouped effect.stamp (effect.first ∷ behind effect.rest)

@@ -4,7 +4,8 @@ use Rattle.cr_base.specs.declared.command.Command.{Command}
 use Rattle.cr_base.specs.declared.entry.Entry.{Entry}
 use Rattle.cr_base.specs.declared.entry.Stamp.{Stamp}
 use Rattle.cr_base.specs.declared.reply.Rule.{Rule}
-use Rattle.cr_base.specs.Bulk.{row_judged_by, IsRowEntry}
+use Rattle.cr_base.specs.declared.resolved.ResolvedCommand.{ResolvedCommand}
+use Rattle.cr_base.specs.Bulk.{row_judged_by, row_resolved_by, IsRowEntry}
 use Rattle.cr_base.specs.Drawn.{Drawn, grouped}
 use Rattle.cr_base.specs.History.{History}
 use Rattle.cr_base.specs.Sources.{facts_of_tables, shown_in_tables}
@@ -26,6 +27,11 @@ pub record AreEarlier (t : Tables) (earlier : History) : Type 0 where
 -- what the command of a row draws, by the tables
 abbrev pub row_judged_at : Tables → Stamp → Command → Result Drawn Rule
 row_judged_at t stamp command = row_judged_by (facts_of_tables t (Some stamp.maker)) (shown_in_tables t) stamp command
+
+-- the same by number
+abbrev pub row_resolved_at : Tables → Stamp → ResolvedCommand → Result Drawn Rule
+row_resolved_at t stamp command =
+    row_resolved_by (facts_of_tables t (Some stamp.maker)) (shown_in_tables t) stamp command
 
 -- a judgement without its receipt, since no row is given one
 abbrev pub group_or_rule : Result Drawn Rule → Result History Rule

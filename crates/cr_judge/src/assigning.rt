@@ -1,18 +1,18 @@
 //! What is judged of a paper, and of a user who is named with it: conflicts, bids, assignments and invitations.
 ghost use Rattle.std.specs.Prelude.{◌≡◌};
-ghost use Rattle.cr_base.specs.Calls.{call_by};
-ghost use Rattle.cr_base.specs.Judging.{judge_by_role};
+ghost use Rattle.cr_base.specs.Calls.{resolved_by};
+ghost use Rattle.cr_base.specs.Judging.{resolved_by_role};
 ghost use Rattle.cr_base.specs.Tables.{tables_from};
-ghost use Rattle.cr_base.specs.declared.command.Command.TheVariants as commands;
+ghost use Rattle.cr_base.specs.declared.resolved.ResolvedCommand.TheVariants as commands;
 ghost use Rattle.cr_judge.specs.Effects.{drawn_or_rule, entry_or_rule};
-ghost use Rattle.cr_judge.specs.Named.{conflict_at, written_at};
+ghost use Rattle.cr_judge.specs.Named.{written_at};
 ghost use Rattle.cr_judge.specs.Rows.{AreEarlier};
 
 use crate::effect::{Effect, alone};
 use crate::named::{
-    held, is_conflicted, is_external_target, is_late, named_paper, ordinal_of, target_of, user_of,
+    held, is_conflicted, is_external_target, is_late, named_paper, ordinal_of, target_of,
 };
-use cr_base::{Bid, Entry, Kind, PaperNo, Rule, Short, Stamp, Stamped, Steps, UserNo};
+use cr_base::{Bid, Entry, Kind, PaperNo, Rule, Stamp, Stamped, Steps, UserNo};
 use cr_view::Live;
 
 pub(crate) fn bid(
@@ -22,7 +22,7 @@ pub(crate) fn bid(
     value: Bid,
 ) -> Result<Effect, Rule>
     ensures { drawn_or_rule live.now.tables.accounts result
-        ≡ judge_by_role live.now.tables (call_by stamp.now (commands.Bid paper.now value)) }
+        ≡ resolved_by_role live.now.tables (resolved_by stamp.now (commands.Bid paper.now value)) }
 {
     let named = named_paper(live, stamp.maker, paper, &[]);
     let late = is_late(live, stamp);
@@ -32,8 +32,7 @@ pub(crate) fn bid(
     Ok(alone(stamp, Entry::Bid { paper, value }))
 }
 
-/// Returns the entry that turns on or off the conflict of the user who was found for a name, after earlier entries of
-/// the same bulk.
+/// Returns the entry that turns on or off the conflict of a user, after earlier entries of the same bulk.
 pub(crate) fn conflict(
     live: &Live,
     stamp: &Stamp,
@@ -44,7 +43,8 @@ pub(crate) fn conflict(
 ) -> Result<Entry, Rule>
     requires { AreEarlier live.now.tables earlier.now }
     ensures { entry_or_rule live.now.tables.accounts stamp.now result
-        ≡ conflict_at (tables_from live.now.tables earlier.now) stamp.now paper.now user.now on }
+        ≡ resolved_by_role (tables_from live.now.tables earlier.now)
+        (resolved_by stamp.now (commands.SetConflict paper.now user.now on)) }
 {
     let named = named_paper(live, stamp.maker, paper, earlier);
     let target = target_of(live, user);
@@ -65,32 +65,31 @@ pub(crate) fn conflict(
     Ok(Entry::Conflict { paper, user, on })
 }
 
-/// Returns the entry that assigns the user of a name, after earlier entries of the same bulk.
+/// Returns the entry that assigns a user, after earlier entries of the same bulk.
 pub(crate) fn assignment(
     live: &Live,
     stamp: &Stamp,
     paper: &Option<PaperNo>,
-    name: &Option<Short>,
+    user: &Option<UserNo>,
     kind: Kind,
     earlier: &[Stamped],
 ) -> Result<Entry, Rule>
     requires { AreEarlier live.now.tables earlier.now }
     ensures { entry_or_rule live.now.tables.accounts stamp.now result
-        ≡ judge_by_role (tables_from live.now.tables earlier.now)
-        (call_by stamp.now (commands.Assign paper.now name.now kind)) }
+        ≡ resolved_by_role (tables_from live.now.tables earlier.now)
+        (resolved_by stamp.now (commands.Assign paper.now user.now kind)) }
 {
     let named = named_paper(live, stamp.maker, paper, earlier);
-    let user = user_of(live, name);
     let ordinal = live.seat_table().judge_assign(
         &named.by,
         &named.paper,
-        &target_of(live, &user),
+        &target_of(live, user),
         named.withdrawn,
-        is_conflicted(live, &user, &named.paper, earlier),
+        is_conflicted(live, user, &named.paper, earlier),
         earlier,
     )?;
     let paper = held(&named.paper);
-    let user = held(&user);
+    let user = held(user);
     Ok(Entry::Assigned {
         paper,
         user,
@@ -99,31 +98,30 @@ pub(crate) fn assignment(
     })
 }
 
-/// Returns the entry that takes the user of a name off the paper, after earlier entries of the same bulk.
+/// Returns the entry that takes a user off the paper, after earlier entries of the same bulk.
 pub(crate) fn unassignment(
     live: &Live,
     stamp: &Stamp,
     paper: &Option<PaperNo>,
-    name: &Option<Short>,
+    user: &Option<UserNo>,
     earlier: &[Stamped],
 ) -> Result<Entry, Rule>
     requires { AreEarlier live.now.tables earlier.now }
     ensures { entry_or_rule live.now.tables.accounts stamp.now result
-        ≡ judge_by_role (tables_from live.now.tables earlier.now)
-        (call_by stamp.now (commands.Unassign paper.now name.now)) }
+        ≡ resolved_by_role (tables_from live.now.tables earlier.now)
+        (resolved_by stamp.now (commands.Unassign paper.now user.now)) }
 {
     let named = named_paper(live, stamp.maker, paper, earlier);
-    let user = user_of(live, name);
     let ordinal = live.seat_table().judge_unassign(
         &named.by,
         &named.paper,
-        &target_of(live, &user),
+        &target_of(live, user),
         named.withdrawn,
-        has_written(live, &user, &named.paper, earlier),
+        has_written(live, user, &named.paper, earlier),
         earlier,
     )?;
     let paper = held(&named.paper);
-    let user = held(&user);
+    let user = held(user);
     Ok(Entry::Unassigned {
         paper,
         user,
@@ -131,50 +129,48 @@ pub(crate) fn unassignment(
     })
 }
 
-/// Returns the entry that invites the user of a name to the paper.
+/// Returns the entry that invites a user to the paper.
 pub(crate) fn invitation(
     live: &Live,
     stamp: &Stamp,
     paper: &Option<PaperNo>,
-    name: &Option<Short>,
+    user: &Option<UserNo>,
 ) -> Result<Effect, Rule>
     ensures { drawn_or_rule live.now.tables.accounts result
-        ≡ judge_by_role live.now.tables (call_by stamp.now (commands.Invite paper.now name.now)) }
+        ≡ resolved_by_role live.now.tables (resolved_by stamp.now (commands.Invite paper.now user.now)) }
 {
     let named = named_paper(live, stamp.maker, paper, &[]);
-    let user = user_of(live, name);
     live.seat_table().judge_invite(
         &named.by,
         &named.paper,
-        &target_of(live, &user),
+        &target_of(live, user),
         named.withdrawn,
-        is_conflicted(live, &user, &named.paper, &[]),
+        is_conflicted(live, user, &named.paper, &[]),
     )?;
     let paper = held(&named.paper);
-    let user = held(&user);
+    let user = held(user);
     Ok(alone(stamp, Entry::Invited { paper, user }))
 }
 
-/// Returns the entry that takes the invitation of the user of a name back.
+/// Returns the entry that takes a user's invitation back.
 pub(crate) fn uninvitation(
     live: &Live,
     stamp: &Stamp,
     paper: &Option<PaperNo>,
-    name: &Option<Short>,
+    user: &Option<UserNo>,
 ) -> Result<Effect, Rule>
     ensures { drawn_or_rule live.now.tables.accounts result
-        ≡ judge_by_role live.now.tables (call_by stamp.now (commands.Uninvite paper.now name.now)) }
+        ≡ resolved_by_role live.now.tables (resolved_by stamp.now (commands.Uninvite paper.now user.now)) }
 {
     let named = named_paper(live, stamp.maker, paper, &[]);
-    let user = user_of(live, name);
     live.seat_table().judge_uninvite(
         &named.by,
         &named.paper,
-        &target_of(live, &user),
+        &target_of(live, user),
         named.withdrawn,
     )?;
     let paper = held(&named.paper);
-    let user = held(&user);
+    let user = held(user);
     Ok(alone(stamp, Entry::Uninvited { paper, user }))
 }
 

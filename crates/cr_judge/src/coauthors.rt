@@ -1,31 +1,53 @@
 //! The co-authors that a submission tells.
 ghost use Rattle.std.specs.Prelude.{◌≡◌, ◌≤◌, ◌<◌, ◌∷◌, ◌++◌, ◌==◌, length, not};
 ghost use Rattle.std.specs.List.{list_any};
+ghost use Rattle.std.specs.Option.{option_and_then};
+ghost use Rattle.cr_base.specs.Accounts.{lines_of};
 ghost use Rattle.cr_base.specs.Lists.{given};
-ghost use Rattle.cr_judge.specs.Targets.{coauthors_of, users_at};
+ghost use Rattle.cr_base.specs.Sources.{is_there};
+ghost use Rattle.cr_judge.specs.Targets.{coauthors_of};
 
-use crate::named::user_of;
-use cr_base::{Coauthors, Short, UserNo};
+use cr_base::{Coauthors, UserNo};
 use cr_view::Live;
 
-/// Returns the users of these names, in their order and each once, without the maker; `None` if one of them isn't
-/// there.
+/// Returns these users, in their order and each once, without the maker; `None` if one of them isn't there.
 ///
 /// # Cost
 ///
-/// Takes no memory; one look-up by name each.
-pub(crate) fn coauthors(live: &Live, maker: UserNo, names: &[Option<Short>]) -> Option<Coauthors>
-    requires { length names.now ≤ 19 }
-    ensures { result ≡ coauthors_of maker (users_at live.now.tables.accounts names.now) }
+/// Takes no memory; one read by number each.
+pub(crate) fn coauthors(live: &Live, maker: UserNo, told: &Option<Coauthors>) -> Option<Coauthors>
+    ensures { result ≡ option_and_then (coauthors_of live.now.tables maker) told.now }
+{
+    match told {
+        Some(told) => coauthors_among(live, maker, told.as_slice()),
+        None => None,
+    }
+}
+
+/// Returns the same of users who are told.
+fn coauthors_among(live: &Live, maker: UserNo, users: &[UserNo]) -> Option<Coauthors>
+    requires { length users.now ≤ 19 }
+    ensures { result ≡ coauthors_of live.now.tables maker users.now }
 {
     let mut coauthors = Coauthors::none();
-    'names: for name in names {
-        let Some(user) = user_of(live, name) else {
+    'users: for user in users {
+        if !is_there(live, *user) {
             return None;
-        };
-        push_once(&mut coauthors, maker, user);
+        }
+        push_once(&mut coauthors, maker, *user);
     }
     Some(coauthors)
+}
+
+/// Returns whether the user has registered.
+///
+/// # Cost
+///
+/// One read by number.
+pub fn is_there(live: &Live, user: UserNo) -> bool
+    ensures { result ≡ is_there (lines_of live.now.tables.accounts) user }
+{
+    live.account_table().role_given(user).is_some()
 }
 
 /// Adds a user, unless the user is the maker or was told before.

@@ -1,23 +1,22 @@
 //! What is judged by the tables.
 ghost use Rattle.std.specs.Prelude.{◌≡◌, ◌≤◌, ◌==◌, IfOk, IsTrue, length, if◌then◌else◌};
-ghost use Rattle.cr_base.specs.Calls.{call_by};
-ghost use Rattle.cr_base.specs.Judging.{judge_by_role};
-ghost use Rattle.cr_base.specs.Logins.{command_wants_login};
+ghost use Rattle.cr_base.specs.Calls.{resolved_by};
+ghost use Rattle.cr_base.specs.Judging.{resolved_by_role};
+ghost use Rattle.cr_base.specs.Resolving.{resolved_wants_login};
 ghost use Rattle.cr_base.specs.Tables.{FitInTurn};
-ghost use Rattle.cr_base.specs.declared.command.Command.TheVariants as commands;
-ghost use Rattle.cr_judge.specs.Callers.{HasCaller, HasFewAuthors};
+ghost use Rattle.cr_base.specs.declared.resolved.ResolvedCommand.TheVariants as commands;
+ghost use Rattle.cr_judge.specs.Callers.{HasCaller};
 ghost use Rattle.cr_judge.specs.Effects.{drawn_or_rule, group_of};
-ghost use Rattle.cr_judge.specs.Named.{registration_at, submission_at, naming_at, dismissal_at};
 ghost use Rattle.cr_judge.specs.declared.effect.Rest.TheVariants as rests;
 
 use crate::assigning::{assignment, bid, conflict, invitation, unassignment, uninvitation};
 use crate::coauthors::coauthors;
 use crate::effect::{Effect, Rest, alone, alone_or_rule};
-use crate::named::{held, is_late, user_of};
+use crate::named::{held, is_late};
 use crate::writing::{comment, decision, response, review, tag};
 use cr_base::{
-    Blob, Call, Command, Deadline, Digest, Entry, Mode, Moment, PaperNo, Phase, RetryKey, Role,
-    Rule, Short, Stamp, Text, ToldNames, UserNo,
+    Blob, Coauthors, Deadline, Digest, Entry, Mode, Moment, PaperNo, Phase, ResolvedCall,
+    ResolvedCommand, RetryKey, Role, Rule, Short, Stamp, Text, UserNo,
 };
 use cr_view::Live;
 
@@ -34,15 +33,14 @@ use cr_view::Live;
 ///
 /// # Cost
 ///
-/// Takes no memory: the command's texts and its content are moved. One look-up by name for a registration, for each
-/// user named and for each co-author. For a paper named, walks over its authors and seats, and binary searches among
-/// its conflicts and invitations, for the caller and at most as much for a user named with it. An unassignment walks
+/// Takes no memory: the command's texts and its content are moved. One look-up by name for a registration, and one
+/// read by number for each user told. For a paper named, walks over its authors and seats, and binary searches among
+/// its conflicts and invitations, for the caller and at most as much for a user told with it. An unassignment walks
 /// over the paper's forms too; a review walks over them and once more over the seats; a comment once more over the
 /// seats. All else is a few reads by number.
-pub fn judge(live: &Live, call: Call) -> Result<Effect, Rule>
+pub fn judge(live: &Live, call: ResolvedCall) -> Result<Effect, Rule>
     requires caller { HasCaller call }
-    requires few { HasFewAuthors call.command }
-    ensures drawn { drawn_or_rule live.now.tables.accounts result ≡ judge_by_role live.now.tables call }
+    ensures drawn { drawn_or_rule live.now.tables.accounts result ≡ resolved_by_role live.now.tables call }
     ensures fits { IfOk result (λ effect. FitInTurn live.now.tables (group_of effect)) }
 {
     live.law_within();
@@ -50,19 +48,18 @@ pub fn judge(live: &Live, call: Call) -> Result<Effect, Rule>
 }
 
 /// Returns what a command comes to: a registration, which has no caller, or a user's.
-fn effect_of(live: &Live, call: Call) -> Result<Effect, Rule>
+fn effect_of(live: &Live, call: ResolvedCall) -> Result<Effect, Rule>
     requires caller { HasCaller call }
-    requires few { HasFewAuthors call.command }
-    ensures { drawn_or_rule live.now.tables.accounts result ≡ judge_by_role live.now.tables call }
+    ensures { drawn_or_rule live.now.tables.accounts result ≡ resolved_by_role live.now.tables call }
 {
-    let Call {
+    let ResolvedCall {
         caller,
         at,
         key,
         command,
     } = call;
     match command {
-        Command::Register { name, digest } => registration(live, at, key, name, digest),
+        ResolvedCommand::Register { name, digest } => registration(live, at, key, name, digest),
         command => {
             let stamp = Stamp {
                 maker: held(&caller),
@@ -75,56 +72,54 @@ fn effect_of(live: &Live, call: Call) -> Result<Effect, Rule>
 }
 
 /// Returns what the command of the user whose stamp this is comes to, by the function of its kind.
-fn user_effect_of(live: &Live, stamp: &Stamp, command: Command) -> Result<Effect, Rule>
-    requires login { IsTrue (command_wants_login command) }
-    requires few { HasFewAuthors command }
+fn user_effect_of(live: &Live, stamp: &Stamp, command: ResolvedCommand) -> Result<Effect, Rule>
+    requires login { IsTrue (resolved_wants_login command) }
     ensures { drawn_or_rule live.now.tables.accounts result
-        ≡ judge_by_role live.now.tables (call_by stamp.now command) }
+        ≡ resolved_by_role live.now.tables (resolved_by stamp.now command) }
 {
     match command {
-        Command::Register { .. } => unreachable!(),
-        Command::SetPhase { phase: to } => phase(live, stamp, to),
-        Command::Submit {
+        ResolvedCommand::Register { .. } => unreachable!(),
+        ResolvedCommand::SetPhase { phase: to } => phase(live, stamp, to),
+        ResolvedCommand::Submit {
             title,
             abstract_,
             authors,
-        } => submission(live, stamp, title, abstract_, &authors),
-        Command::Revise {
+        } => submission(live, stamp, title, abstract_, authors),
+        ResolvedCommand::Revise {
             paper,
             title,
             abstract_,
         } => revision(live, stamp, &paper, title, abstract_),
-        Command::Upload { paper, content } => upload(live, stamp, &paper, content),
-        Command::Withdraw { paper } => withdrawal(live, stamp, &paper),
-        Command::Name { user, role } => naming(live, stamp, &user, role),
-        Command::SetMode { mode: to } => mode(live, stamp, to),
-        Command::SetConflict { paper, user, on } => {
-            let user = user_of(live, &user);
+        ResolvedCommand::Upload { paper, content } => upload(live, stamp, &paper, content),
+        ResolvedCommand::Withdraw { paper } => withdrawal(live, stamp, &paper),
+        ResolvedCommand::Name { user, role } => naming(live, stamp, &user, role),
+        ResolvedCommand::SetMode { mode: to } => mode(live, stamp, to),
+        ResolvedCommand::SetConflict { paper, user, on } => {
             alone_or_rule(stamp, conflict(live, stamp, &paper, &user, on, &[]))
         }
-        Command::Bid { paper, value } => bid(live, stamp, &paper, value),
-        Command::Assign { paper, user, kind } => {
+        ResolvedCommand::Bid { paper, value } => bid(live, stamp, &paper, value),
+        ResolvedCommand::Assign { paper, user, kind } => {
             alone_or_rule(stamp, assignment(live, stamp, &paper, &user, kind, &[]))
         }
-        Command::Unassign { paper, user } => {
+        ResolvedCommand::Unassign { paper, user } => {
             alone_or_rule(stamp, unassignment(live, stamp, &paper, &user, &[]))
         }
-        Command::Review { paper, form } => review(live, stamp, &paper, form),
-        Command::Respond { paper, text } => response(live, stamp, &paper, text),
-        Command::Comment { paper, text } => comment(live, stamp, &paper, text),
-        Command::Tag {
+        ResolvedCommand::Review { paper, form } => review(live, stamp, &paper, form),
+        ResolvedCommand::Respond { paper, text } => response(live, stamp, &paper, text),
+        ResolvedCommand::Comment { paper, text } => comment(live, stamp, &paper, text),
+        ResolvedCommand::Tag {
             paper,
             tag: text,
             on,
         } => alone_or_rule(stamp, tag(live, stamp, &paper, text, on, &[])),
-        Command::Decide {
+        ResolvedCommand::Decide {
             paper,
             decision: made,
         } => decision(live, stamp, &paper, made),
-        Command::SetDeadline { phase, until } => deadline(live, stamp, phase, until),
-        Command::Dismiss { user } => dismissal(live, stamp, &user),
-        Command::Invite { paper, user } => invitation(live, stamp, &paper, &user),
-        Command::Uninvite { paper, user } => uninvitation(live, stamp, &paper, &user),
+        ResolvedCommand::SetDeadline { phase, until } => deadline(live, stamp, phase, until),
+        ResolvedCommand::Dismiss { user } => dismissal(live, stamp, &user),
+        ResolvedCommand::Invite { paper, user } => invitation(live, stamp, &paper, &user),
+        ResolvedCommand::Uninvite { paper, user } => uninvitation(live, stamp, &paper, &user),
     }
 }
 
@@ -135,7 +130,8 @@ fn registration(
     name: Short,
     digest: Digest,
 ) -> Result<Effect, Rule>
-    ensures { drawn_or_rule live.now.tables.accounts result ≡ registration_at live.now.tables at key name digest }
+    ensures { drawn_or_rule live.now.tables.accounts result ≡ resolved_by_role live.now.tables
+        (record { caller = None; at = at; key = key; command = commands.Register name digest }) }
 {
     let user = live.account_table().register_check(&name)?;
     Ok(Effect {
@@ -162,7 +158,7 @@ fn behind_registration(user: UserNo) -> Rest
 
 fn phase(live: &Live, stamp: &Stamp, to: Phase) -> Result<Effect, Rule>
     ensures { drawn_or_rule live.now.tables.accounts result
-        ≡ judge_by_role live.now.tables (call_by stamp.now (commands.SetPhase to)) }
+        ≡ resolved_by_role live.now.tables (resolved_by stamp.now (commands.SetPhase to)) }
 {
     let by = live.standing(&Some(stamp.maker), &None);
     live.stage_table().judge_phase(&by, to)?;
@@ -174,13 +170,12 @@ fn submission(
     stamp: &Stamp,
     title: Text,
     abstract_: Text,
-    authors: &ToldNames,
+    authors: Option<Coauthors>,
 ) -> Result<Effect, Rule>
-    requires { length authors.now ≤ 19 }
     ensures { drawn_or_rule live.now.tables.accounts result
-        ≡ submission_at live.now.tables stamp.now title abstract_ authors.now }
+        ≡ resolved_by_role live.now.tables (resolved_by stamp.now (commands.Submit title abstract_ authors)) }
 {
-    let users = coauthors(live, stamp.maker, authors.as_slice());
+    let users = coauthors(live, stamp.maker, &authors);
     let by = live.standing(&Some(stamp.maker), &None);
     let late = is_late(live, stamp);
     let paper = live
@@ -200,29 +195,29 @@ fn submission(
     })
 }
 
-fn naming(live: &Live, stamp: &Stamp, name: &Option<Short>, role: Role) -> Result<Effect, Rule>
-    ensures { drawn_or_rule live.now.tables.accounts result ≡ naming_at live.now.tables stamp.now name.now role }
+fn naming(live: &Live, stamp: &Stamp, user: &Option<UserNo>, role: Role) -> Result<Effect, Rule>
+    ensures { drawn_or_rule live.now.tables.accounts result
+        ≡ resolved_by_role live.now.tables (resolved_by stamp.now (commands.Name user.now role)) }
 {
-    let user = user_of(live, name);
     let by = live.standing(&Some(stamp.maker), &None);
-    live.account_table().judge_name(&by, &user, role)?;
-    let user = held(&user);
+    live.account_table().judge_name(&by, user, role)?;
+    let user = held(user);
     Ok(alone(stamp, Entry::Named { user, role }))
 }
 
-fn dismissal(live: &Live, stamp: &Stamp, name: &Option<Short>) -> Result<Effect, Rule>
-    ensures { drawn_or_rule live.now.tables.accounts result ≡ dismissal_at live.now.tables stamp.now name.now }
+fn dismissal(live: &Live, stamp: &Stamp, user: &Option<UserNo>) -> Result<Effect, Rule>
+    ensures { drawn_or_rule live.now.tables.accounts result
+        ≡ resolved_by_role live.now.tables (resolved_by stamp.now (commands.Dismiss user.now)) }
 {
-    let user = user_of(live, name);
     let by = live.standing(&Some(stamp.maker), &None);
-    live.account_table().judge_dismiss(&by, &user)?;
-    let user = held(&user);
+    live.account_table().judge_dismiss(&by, user)?;
+    let user = held(user);
     Ok(alone(stamp, Entry::Dismissed { user }))
 }
 
 fn mode(live: &Live, stamp: &Stamp, to: Mode) -> Result<Effect, Rule>
     ensures { drawn_or_rule live.now.tables.accounts result
-        ≡ judge_by_role live.now.tables (call_by stamp.now (commands.SetMode to)) }
+        ≡ resolved_by_role live.now.tables (resolved_by stamp.now (commands.SetMode to)) }
 {
     let by = live.standing(&Some(stamp.maker), &None);
     live.stage_table().judge_mode(&by)?;
@@ -236,7 +231,7 @@ fn deadline(
     until: Option<Deadline>,
 ) -> Result<Effect, Rule>
     ensures { drawn_or_rule live.now.tables.accounts result
-        ≡ judge_by_role live.now.tables (call_by stamp.now (commands.SetDeadline phase until)) }
+        ≡ resolved_by_role live.now.tables (resolved_by stamp.now (commands.SetDeadline phase until)) }
 {
     let by = live.standing(&Some(stamp.maker), &None);
     live.stage_table().judge_deadline(&by, phase)?;
@@ -251,7 +246,7 @@ fn revision(
     abstract_: Text,
 ) -> Result<Effect, Rule>
     ensures { drawn_or_rule live.now.tables.accounts result
-        ≡ judge_by_role live.now.tables (call_by stamp.now (commands.Revise paper.now title abstract_)) }
+        ≡ resolved_by_role live.now.tables (resolved_by stamp.now (commands.Revise paper.now title abstract_)) }
 {
     let by = live.standing(&Some(stamp.maker), paper);
     let late = is_late(live, stamp);
@@ -274,7 +269,7 @@ fn upload(
     content: Blob,
 ) -> Result<Effect, Rule>
     ensures { drawn_or_rule live.now.tables.accounts result
-        ≡ judge_by_role live.now.tables (call_by stamp.now (commands.Upload paper.now content)) }
+        ≡ resolved_by_role live.now.tables (resolved_by stamp.now (commands.Upload paper.now content)) }
 {
     let by = live.standing(&Some(stamp.maker), paper);
     let bytes = content.as_slice().len() as u64;
@@ -295,7 +290,7 @@ fn upload(
 
 fn withdrawal(live: &Live, stamp: &Stamp, paper: &Option<PaperNo>) -> Result<Effect, Rule>
     ensures { drawn_or_rule live.now.tables.accounts result
-        ≡ judge_by_role live.now.tables (call_by stamp.now (commands.Withdraw paper.now)) }
+        ≡ resolved_by_role live.now.tables (resolved_by stamp.now (commands.Withdraw paper.now)) }
 {
     let by = live.standing(&Some(stamp.maker), paper);
     let late = is_late(live, stamp);

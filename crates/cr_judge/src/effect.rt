@@ -2,8 +2,8 @@
 ghost use Rattle.std.specs.Prelude.{◌≡◌, ◌≤◌, ◌<◌, [], IfOk, Some, length, slice_get, unwrap_or};
 ghost use Rattle.cr_base.specs.Accounts.{lines_of};
 ghost use Rattle.cr_base.specs.Drawn.{receipt_of, stamped};
-ghost use Rattle.cr_base.specs.Retries.{name_told_by};
-ghost use Rattle.cr_judge.specs.Effects.{alone, alone_or_rule, behind, drawn_by, group_of};
+ghost use Rattle.cr_base.specs.Sources.{name_told_by};
+ghost use Rattle.cr_judge.specs.Effects.{alone, alone_or_rule, behind, drawn_by, first_of, group_of, stamp_in};
 
 use cr_base::{Coauthors, Entry, PaperNo, Receipt, Role, Rule, Short, Stamp, Stamped, UserNo};
 use cr_view::Live;
@@ -100,6 +100,21 @@ impl Effect {
             group.push_reserved(stamped(&stamp, index + 1 < others, rest.entry(index)));
         }
         Ok(group)
+    }
+}
+
+impl Effect {
+    /// Gives the metadata of the entries and the first of them, which has the command's texts and its content.
+    pub fn into_first(self) -> (Stamp, Entry)
+        ensures stamp { result.0 ≡ stamp_in self }
+        ensures first { result.1 ≡ first_of self }
+    {
+        let Effect {
+            stamp,
+            first,
+            rest: _,
+        } = self;
+        (stamp, first)
     }
 }
 

@@ -3,13 +3,12 @@
 //!
 //! # Proved
 //!
+//! - Each user that a command names is looked up once, among the accounts: `resolve_call`, `resolve_row`.
 //! - A judgement is that by checks on the tables: the first broken rule, or what is drawn, which fits the tables in
-//!   its turn: `judge` (`drawn`, `fits`).
-//! - Its receipt and group are exact; only the group takes memory: `Effect::receipt`, `Effect::group`. The receipt is
-//!   a function of the first entry: `receipt_of`.
-//! - A bulk's row is judged by the tables followed by the entries of the rows before it: its first broken rule, or its
-//!   entry: `judge_row` (`judged`, `fits`, `next`).
-//! - Whether a caller may send a bulk at all is exact: `may_bulk`.
+//!   its turn: `judge` (`drawn`, `fits`). Its receipt and group are exact; only the group takes memory:
+//!   `Effect::receipt`, `Effect::group`. The receipt is a function of the first entry: `receipt_of`.
+//! - A bulk's row is judged by the tables followed by the entries of the rows before it: `judge_row` (`judged`,
+//!   `fits`, `next`), `may_bulk`. Whether a user is there: `is_there`.
 #![tactic(auto)]
 
 mod assigning;
@@ -17,9 +16,12 @@ mod coauthors;
 mod commands;
 mod effect;
 mod named;
+mod resolving;
 mod rows;
 mod writing;
 
+pub use coauthors::is_there;
 pub use commands::judge;
 pub use effect::{Effect, receipt_of};
+pub use resolving::{resolve_call, resolve_row};
 pub use rows::{judge_row, may_bulk};

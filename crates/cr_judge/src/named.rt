@@ -14,9 +14,8 @@ ghost use Rattle.cr_base.specs.Ties.{is_conflicted_in};
 ghost use Rattle.cr_base.specs.Words.{is_member};
 ghost use Rattle.cr_judge.specs.Named.{named_at, there_in, target_with};
 ghost use Rattle.cr_judge.specs.Rows.{AreEarlier};
-ghost use Rattle.cr_judge.specs.Targets.{target_at};
 
-use cr_base::{Ordinal, PaperNo, Role, Short, Stamp, Stamped, Standing, Steps, UserNo};
+use cr_base::{Ordinal, PaperNo, Role, Stamp, Stamped, Standing, Steps, UserNo};
 use cr_view::Live;
 
 /// Returns what is there, where something is.
@@ -209,21 +208,7 @@ pub(crate) fn ordinal_of(
     }
 }
 
-/// Returns the user of a name that may be none, if somebody registered it.
-///
-/// # Cost
-///
-/// One look-up by name.
-pub(crate) fn user_of(live: &Live, name: &Option<Short>) -> Option<UserNo>
-    ensures { result ≡ target_at live.now.tables.accounts name.now }
-{
-    match name {
-        Some(name) => live.number_of(name),
-        None => None,
-    }
-}
-
-/// Returns the user who was found for a name, with their role.
+/// Returns the user, if they have registered, with their role.
 ///
 /// # Cost
 ///

@@ -1,19 +1,18 @@
 //! What is judged of a bulk: whether its caller may send one, and of each row behind those before it.
 ghost use Rattle.std.specs.Prelude.{◌≡◌, [], ◌∷◌, ◌++◌, Bool, IfOk, Some, None};
-ghost use Rattle.cr_base.specs.Bulk.{bulk_checks, command_of_row};
+ghost use Rattle.cr_base.specs.Bulk.{bulk_checks, resolved_of_row};
 ghost use Rattle.cr_base.specs.Checks.{judged};
 ghost use Rattle.cr_base.specs.Drawn.{grouped, stamped};
 ghost use Rattle.cr_base.specs.Lists.{is_number};
 ghost use Rattle.cr_base.specs.Sources.{standing_at};
 ghost use Rattle.cr_base.specs.Tables.{FitInTurn, tables_from};
-ghost use Rattle.cr_base.specs.declared.command.Command.TheVariants as commands;
+ghost use Rattle.cr_base.specs.declared.resolved.ResolvedCommand.TheVariants as commands;
 ghost use Rattle.cr_judge.specs.Effects.{entry_or_rule};
-ghost use Rattle.cr_judge.specs.Rows.{AreEarlier, group_or_rule, row_group, row_judged_at};
+ghost use Rattle.cr_judge.specs.Rows.{AreEarlier, group_or_rule, row_group, row_resolved_at};
 
 use crate::assigning::{assignment, conflict, unassignment};
-use crate::named::user_of;
 use crate::writing::tag;
-use cr_base::{Entry, PaperNo, RowCommand, Rule, Short, Stamp, Stamped, UserNo};
+use cr_base::{Entry, PaperNo, ResolvedRow, Rule, Stamp, Stamped, UserNo};
 use cr_view::Live;
 
 /// Checks whether a user may send a bulk.
@@ -54,12 +53,13 @@ pub fn may_bulk(live: &Live, caller: UserNo) -> Result<(), Rule>
 pub fn judge_row(
     live: &Live,
     stamp: &Stamp,
-    command: RowCommand,
+    command: ResolvedRow,
     earlier: &[Stamped],
 ) -> Result<Entry, Rule>
     requires { AreEarlier live.now.tables earlier.now }
     ensures judged { row_group stamp.now result
-        ≡ group_or_rule (row_judged_at (tables_from live.now.tables earlier.now) stamp.now (command_of_row command)) }
+        ≡ group_or_rule (row_resolved_at (tables_from live.now.tables earlier.now) stamp.now
+        (resolved_of_row command)) }
     ensures fits { IfOk result
         (λ entry. FitInTurn (tables_from live.now.tables earlier.now) (grouped stamp.now (entry ∷ []))) }
     ensures next { IfOk result (λ entry. (more : Bool)
@@ -74,22 +74,22 @@ pub fn judge_row(
 fn row_entry(
     live: &Live,
     stamp: &Stamp,
-    command: RowCommand,
+    command: ResolvedRow,
     earlier: &[Stamped],
 ) -> Result<Entry, Rule>
     requires { AreEarlier live.now.tables earlier.now }
     ensures { entry_or_rule live.now.tables.accounts stamp.now result
-        ≡ row_judged_at (tables_from live.now.tables earlier.now) stamp.now (command_of_row command) }
+        ≡ row_resolved_at (tables_from live.now.tables earlier.now) stamp.now (resolved_of_row command) }
 {
     match command {
-        RowCommand::Conflict { paper, user, on } => {
+        ResolvedRow::Conflict { paper, user, on } => {
             row_conflict(live, stamp, &paper, &user, on, earlier)
         }
-        RowCommand::Assign { paper, user, kind } => {
+        ResolvedRow::Assign { paper, user, kind } => {
             assignment(live, stamp, &paper, &user, kind, earlier)
         }
-        RowCommand::Unassign { paper, user } => unassignment(live, stamp, &paper, &user, earlier),
-        RowCommand::Tag {
+        ResolvedRow::Unassign { paper, user } => unassignment(live, stamp, &paper, &user, earlier),
+        ResolvedRow::Tag {
             paper,
             tag: text,
             on,
@@ -99,36 +99,31 @@ fn row_entry(
 
 /// Returns the entry of a row that turns a conflict on or off: `BulkSelf` where it is the caller's own, and else what
 /// `conflict` tells.
-///
-/// # Cost
-///
-/// One look-up by name.
 fn row_conflict(
     live: &Live,
     stamp: &Stamp,
     paper: &Option<PaperNo>,
-    name: &Option<Short>,
+    user: &Option<UserNo>,
     on: bool,
     earlier: &[Stamped],
 ) -> Result<Entry, Rule>
     requires { AreEarlier live.now.tables earlier.now }
     ensures { entry_or_rule live.now.tables.accounts stamp.now result
-        ≡ row_judged_at (tables_from live.now.tables earlier.now) stamp.now
-        (commands.SetConflict paper.now name.now on) }
+        ≡ row_resolved_at (tables_from live.now.tables earlier.now) stamp.now
+        (commands.SetConflict paper.now user.now on) }
 {
-    let user = user_of(live, name);
-    if is_user(&user, stamp.maker) {
+    if is_user(user, stamp.maker) {
         return Err(Rule::BulkSelf);
     }
-    conflict(live, stamp, paper, &user, on, earlier)
+    conflict(live, stamp, paper, user, on, earlier)
 }
 
-/// Returns whether the user found, if there is one, is this one.
-fn is_user(found: &Option<UserNo>, user: UserNo) -> bool
-    ensures { result ≡ is_number found.now user }
+/// Returns whether the user named, if there is one, is this one.
+fn is_user(named: &Option<UserNo>, user: UserNo) -> bool
+    ensures { result ≡ is_number named.now user }
 {
-    match found {
-        Some(found) => found.number() == user.number(),
+    match named {
+        Some(named) => named.number() == user.number(),
         None => false,
     }
 }

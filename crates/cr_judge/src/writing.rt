@@ -1,10 +1,10 @@
 //! What is judged of what is written on a paper, reviews, what authors respond to them, comments and tags, and of what
 //! is decided of it.
 ghost use Rattle.std.specs.Prelude.{◌≡◌};
-ghost use Rattle.cr_base.specs.Calls.{call_by};
-ghost use Rattle.cr_base.specs.Judging.{judge_by_role};
+ghost use Rattle.cr_base.specs.Calls.{resolved_by};
+ghost use Rattle.cr_base.specs.Judging.{resolved_by_role};
 ghost use Rattle.cr_base.specs.Tables.{tables_from};
-ghost use Rattle.cr_base.specs.declared.command.Command.TheVariants as commands;
+ghost use Rattle.cr_base.specs.declared.resolved.ResolvedCommand.TheVariants as commands;
 ghost use Rattle.cr_judge.specs.Effects.{drawn_or_rule, entry_or_rule};
 ghost use Rattle.cr_judge.specs.Rows.{AreEarlier};
 
@@ -20,7 +20,7 @@ pub(crate) fn review(
     form: Form,
 ) -> Result<Effect, Rule>
     ensures { drawn_or_rule live.now.tables.accounts result
-        ≡ judge_by_role live.now.tables (call_by stamp.now (commands.Review paper.now form)) }
+        ≡ resolved_by_role live.now.tables (resolved_by stamp.now (commands.Review paper.now form)) }
 {
     let named = named_paper(live, stamp.maker, paper, &[]);
     let ordinal = ordinal_of(live, &Some(stamp.maker), &named.paper, &[]);
@@ -48,7 +48,7 @@ pub(crate) fn response(
     text: Text,
 ) -> Result<Effect, Rule>
     ensures { drawn_or_rule live.now.tables.accounts result
-        ≡ judge_by_role live.now.tables (call_by stamp.now (commands.Respond paper.now text)) }
+        ≡ resolved_by_role live.now.tables (resolved_by stamp.now (commands.Respond paper.now text)) }
 {
     let named = named_paper(live, stamp.maker, paper, &[]);
     let late = is_late(live, stamp);
@@ -65,7 +65,7 @@ pub(crate) fn comment(
     text: Text,
 ) -> Result<Effect, Rule>
     ensures { drawn_or_rule live.now.tables.accounts result
-        ≡ judge_by_role live.now.tables (call_by stamp.now (commands.Comment paper.now text)) }
+        ≡ resolved_by_role live.now.tables (resolved_by stamp.now (commands.Comment paper.now text)) }
 {
     let named = named_paper(live, stamp.maker, paper, &[]);
     let late = is_late(live, stamp);
@@ -100,8 +100,8 @@ pub(crate) fn tag(
 ) -> Result<Entry, Rule>
     requires { AreEarlier live.now.tables earlier.now }
     ensures { entry_or_rule live.now.tables.accounts stamp.now result
-        ≡ judge_by_role (tables_from live.now.tables earlier.now)
-        (call_by stamp.now (commands.Tag paper.now tag on)) }
+        ≡ resolved_by_role (tables_from live.now.tables earlier.now)
+        (resolved_by stamp.now (commands.Tag paper.now tag on)) }
 {
     let named = named_paper(live, stamp.maker, paper, earlier);
     live.tag_table()
@@ -117,7 +117,7 @@ pub(crate) fn decision(
     decision: Decision,
 ) -> Result<Effect, Rule>
     ensures { drawn_or_rule live.now.tables.accounts result
-        ≡ judge_by_role live.now.tables (call_by stamp.now (commands.Decide paper.now decision)) }
+        ≡ resolved_by_role live.now.tables (resolved_by stamp.now (commands.Decide paper.now decision)) }
 {
     let named = named_paper(live, stamp.maker, paper, &[]);
     live.decision_table()

@@ -22,7 +22,7 @@ use std::sync::ledger::Ledger;
 #[derive(Drop)]
 pub struct Files<V> {
     alloc: Global,
-    // By the paper's number; at 0 stands an empty one.
+    // By the paper's number; that at 0 is empty.
     drawers: Vec<Drawer<V>>,
 }
 

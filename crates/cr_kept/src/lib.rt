@@ -2,13 +2,10 @@
 //!
 //! # Proved
 //!
-//! - A paper's values are those that came, in order: `Files::of_paper`; `file` (`files`). One may take another's
-//!   place, come in before others, or be taken out: `change`, `insert` (`values`), `remove`.
-//! - A sum is each user's: `Sums::of`; `add` (`sums`).
-//! - All of it takes no memory once there is room for the paper; making room changes nothing else: `room`, `make_room`
-//!   (`same`).
-//! - A look-up takes a step for each value that it gives, and at most one if it gives none: `of_paper` (`steps`);
-//!   `get`, `last` (`told`, `steps`).
+//! - A paper's values are those that came, in order, as changed, put in or taken out: `Files::of_paper`; `file`
+//!   (`files`), `change`, `insert` (`values`), `remove`. A sum is each user's: `Sums::of`, `add` (`sums`).
+//! - All of it takes no memory once there is room for the paper: `room`, `make_room` (`same`). A look-up takes a step
+//!   for each value that it gives: `of_paper` (`steps`); `get`, `last` (`told`, `steps`).
 //!
 //! # Assumed
 //!

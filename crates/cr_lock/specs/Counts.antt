@@ -1,11 +1,11 @@
 -- Numbers, sums over lists, and the count of faults.
 use Rattle.std.specs.Prelude.{ℕ, ◌+◌, Bool, ◌&&◌, ◌||◌, nat_lt, nat_le, if◌then◌else◌, List, [], ◌∷◌}
 
--- a count that stands at its last value, that of a `u64`, can't rise any more
+-- the maximum of a fault counter, that of a `u64`, from which it can't rise
 abbrev pub last_count : ℕ
 last_count = 18446744073709551615
 
--- the count of faults rose, or stands at its last value
+-- the fault counter rose, or is at its maximum
 abbrev pub has_risen : ℕ → ℕ → Bool
 has_risen before after = nat_lt before after || nat_le last_count after
 

@@ -19,7 +19,7 @@ module _ {T E Root : Type 0} where
   abbrev pub left_half : PassState T E Root → PassState T E Root
   left_half v = record v { share = v.share - v.share / 2; left = None }
 
-  -- the other part
+  -- of a state cut in two the part that begins without turns
   abbrev pub right_half : PassState T E Root → PassState T E Root
   right_half v = record v { share = v.share / 2; mine = []; left = None }
 

@@ -57,7 +57,7 @@ module _ {T E : Type 0} where
     left = None;
   }
 
-  -- where a pass has the whole share, nobody else takes turns: its next turn is with the value that it left
+  -- a pass with the whole share takes its next turn with the value that it left, since no other pass takes turns
   abbrev pub IsAsLeft : Known T E → T → Type 0
   IsAsLeft p x = p.share ≡ 64 → IfSome p.left (λ value. x ≡ value)
 
@@ -75,6 +75,6 @@ module _ {T E : Type 0} where
   abbrev pub Agree : Known T E → Known T E → Type 0
   Agree p q = InCommon p.seen q.seen p.mine q.mine
 
-  -- each group stands in what was seen, at its place
+  -- each group is at its place in what was seen
   abbrev pub Stand : Known T E → Type 0
   Stand p = Every (StandsIn p.seen) p.mine

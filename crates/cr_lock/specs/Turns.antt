@@ -11,11 +11,11 @@ module _ {E : Type 0} where
   turn_at place group before after =
       record { place = place; group = group; rise = after - before; marked = has_risen before after }
 
-  -- the place behind the group
+  -- the place after the group
   abbrev pub end_of : Turn E → ℕ
   end_of t = t.place + length t.group
 
-  -- in how many of the groups the entry with the number k stands
+  -- in how many of the groups the entry with the number k is
   abbrev pub groups_with : ℕ → List (Turn E) → ℕ
   groups_with k ts = total (λ t. within t.place (end_of t) k) ts
 
@@ -27,16 +27,16 @@ module _ {E : Type 0} where
   abbrev pub marks : List (Turn E) → ℕ
   marks ts = total (λ t. if t.marked then 1 else 0) ts
 
-  -- the group stands in the list at its place
+  -- the group is in the list at its place
   abbrev pub StandsIn : List E → Turn E → Type 0
   StandsIn log t = (before : List E) × (length before ≡ t.place) × IsPrefix (before ++ t.group) log
 
-  -- the groups, one behind the other
+  -- the groups, one after the other
   abbrev pub groups_of : List (Turn E) → List E
   groups_of [] = []
   groups_of (t ∷ ts) = t.group ++ groups_of ts
 
-  -- t stands behind u: by the place, and at one place by the group's end
+  -- t comes after u: by the place, and at one place by the group's end
   abbrev pub comes_after : Turn E → Turn E → Bool
   comes_after t u = nat_lt u.place t.place || (t.place == u.place && nat_lt (end_of u) (end_of t))
 
@@ -63,6 +63,6 @@ module _ {E : Type 0} where
   InOrder [] = Unit {0}
   InOrder (t ∷ ts) = From t.place ts × InOrder ts
 
-  -- of two lists one begins the other, and no entry stands in a group of both lists of turns
+  -- of two lists one begins the other, and no entry is in a group of both lists of turns
   abbrev pub InCommon : List E → List E → List (Turn E) → List (Turn E) → Type 0
   InCommon xs ys ts us = (IsPrefix xs ys ⊎ IsPrefix ys xs) × ((k : ℕ) → groups_with k ts + groups_with k us ≤ 1)

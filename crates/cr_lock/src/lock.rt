@@ -116,7 +116,7 @@ fn one_slot<T>(alloc: Global, value: T) -> Result<Vec<Option<T>, Global>, T>
 
 /// Draws a ticket, looks until it is served, and takes the value. The pass has then seen its history.
 ///
-/// Behind the mutex the first look finds the ticket served. The proof knows nothing of the mutex, so it looks again.
+/// Under the mutex the first look finds the ticket served. The proof knows nothing of the mutex, so it looks again.
 fn wait_and_take<T: Stands, R: Wait>(
     rt: &R,
     shared: &Board<T>,

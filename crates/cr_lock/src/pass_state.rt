@@ -1,4 +1,4 @@
-//! What a pass knows of the history. These are words of contracts alone: no value of them is ever made.
+//! What a pass knows of the history. Only contracts speak of these: no value of them is ever made.
 use std::collections::LinkedList;
 
 /// One turn of a pass.

@@ -1,4 +1,4 @@
-//! What a value under the lock stands for.
+//! The history of a value under the lock.
 ghost use Rattle.std.specs.Prelude.{◌≡◌, ℕ, List, length};
 
 /// A value that has a list, its history, counts its faults, and has a root, which is what it remembers of its

@@ -2,11 +2,8 @@
 //!
 //! # Proved
 //!
-//! - The log has the entries: `entries`, `len`.
-//! - What a user's numbered command added is found exactly: its first entry, and how many: `find`.
-//! - Entries are appended without memory once there is room; making room changes nothing else: `append`, `room` (`ok`,
-//!   `same`).
-//! - The index agrees with the entries: the type's invariant.
+//! - The log has the entries, and finds what a user's numbered command added: `entries`, `len`, `find`. Entries are
+//!   appended without memory once there is room: `append`, `room` (`ok`, `same`).
 //!
 //! # Assumed
 //!

@@ -187,8 +187,9 @@ impl Log {
     }
 }
 
-/// Takes memory for so many more entries if it lacks, and then for at least an eighth of those there, so that spare
-/// room stays small and each entry is moved some nine times at most while the history grows. The entries don't change.
+/// Takes memory for so many more entries if room is short, and then for at least an eighth of those there, so that
+/// spare room stays small and each entry is moved some nine times at most while the history grows. The entries don't
+/// change.
 ///
 /// # Errors
 ///

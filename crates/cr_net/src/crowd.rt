@@ -34,7 +34,7 @@ impl Seat {
         }
     }
 
-    /// Has its connection give way, if that is due from then on still. Returns whether it does.
+    /// Makes its connection give way, if it is still due since that time. Returns whether it does.
     fn give_way(&self, due: u64) -> bool {
         let Some(seated) = self.0.try_lock() else {
             return false;
@@ -137,7 +137,7 @@ impl Crowd {
         longest
     }
 
-    /// Has the connection give way that has been due longest at this moment. Returns whether one does.
+    /// Makes the connection that has been due longest at this moment give way. Returns whether one does.
     pub(crate) fn make_room(&self, now: u64) -> bool {
         match self.longest_due(now) {
             Some((seat, due)) => seat.give_way(due),

@@ -34,7 +34,7 @@ pub struct TcpDoor {
     crowd: Arc<Crowd, Global>,
     // Its number among the doors of the listener, from 0.
     number: usize,
-    // Whether it is counted among those that wait for a connection.
+    // It is counted among those that wait for a connection.
     waits: bool,
     left: u32,
     is_out: bool,

@@ -42,8 +42,8 @@ impl<R> Model for TcpGates<R> {
 }
 
 impl<R> TcpGates<R> {
-    /// Creates gates with no fault counted, which listen nowhere yet. `handle` is the same runtime, as one that may
-    /// start threads.
+    /// Creates gates with no fault counted, which listen nowhere yet. `handle` is the runtime, as one that may start
+    /// threads.
     pub fn new(rt: &HostRuntime, handle: R) -> TcpGates<R>
         ensures { result ≡ 0 }
     {
@@ -102,7 +102,7 @@ impl<R: Threads> TcpGates<R> {
         Ok(doors)
     }
 
-    /// Has a thread look who waits, from here on. Returns whether one could be made.
+    /// Starts a thread that looks from now on who waits. Returns whether one could be made.
     fn watch(&mut self, crowd: &Arc<Crowd, Global>) -> bool
         ensures { self.new ≡ self.old }
     {

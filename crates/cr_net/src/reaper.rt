@@ -21,7 +21,7 @@ const LOOK: i32 = 1_000;
 /// The pause between two looks while somebody waits, in milliseconds.
 const PAUSE: u64 = 10;
 
-/// The pause between two looks for a user who is taken in place of a connection that gives way, in milliseconds.
+/// The pause between two looks for a client who is taken in place of a connection that gives way, in milliseconds.
 const SOON: u64 = 1;
 
 /// How often it is looked, which with the pauses is a second.
@@ -62,8 +62,8 @@ fn wait_for_taking(rt: &HostRuntime, crowd: &Crowd, taken: u64) {
     }
 }
 
-/// Returns whether somebody waits still, and no door is free. It is looked again, since a door that was free may have
-/// taken a user who came.
+/// Returns whether a client still waits, and no door is free. It looks again, since a door that was free may have
+/// taken a client who came.
 fn is_full(crowd: &Crowd) -> bool {
     !crowd.has_free()
         && match wait_at(&crowd.listener, 0) {
@@ -72,7 +72,7 @@ fn is_full(crowd: &Crowd) -> bool {
         }
 }
 
-/// Has one connection give way, where one is due and no door is free. Returns whether one does.
+/// Makes one connection give way, if one is due and no door is free. Returns whether one does.
 fn make_room(rt: &HostRuntime, crowd: &Crowd) -> bool {
     let Ok(now) = Instant::now(rt) else {
         return false;

@@ -13,7 +13,7 @@ pub(crate) struct SharedStream {
     pub(crate) stream: TcpStream,
     /// When the gates were opened, from which on moments are counted.
     pub(crate) opened: Instant,
-    // Whether a piece went out whole since the last read, and so an answer did: nobody reads in the midst of one.
+    // A piece went out whole since the last read, and so an answer did: no read is made in the middle of one.
     answered: AtomicBool,
     // From when on it gives way, in milliseconds since the gates were opened; `BUSY` where nobody waits for its client.
     due: AtomicU64,

@@ -29,7 +29,7 @@ const SILENT: u64 = 1_000;
 /// The milliseconds for a byte to come, if none came since the last answer.
 const BETWEEN: u64 = 100;
 
-/// The milliseconds from when a request isn't whole with what came first of it.
+/// The milliseconds, from its first byte on, after which a request that isn't whole gives way.
 const WITHIN: u64 = 10_000;
 
 /// How many bytes are dropped at most after the last answer.
@@ -240,7 +240,7 @@ fn write_step(took: &io::Result<usize>, len: usize) -> WriteStep
 #[derive(Drop)]
 pub struct TcpSource {
     half: Half,
-    // Whether a byte came since the last answer.
+    // A byte came since the last answer.
     has_begun: bool,
     is_ended: bool,
 }
@@ -262,7 +262,7 @@ impl TcpSource {
         }
     }
 
-    /// Returns a read, for which there is no more time than the request has left.
+    /// Reads once, for no longer than the time that the request has left.
     fn read_in_time(&mut self, buf: &mut [u8]) -> io::Result<usize>
         ensures size { ReadsAtMost result buf.new }
         ensures length { length buf.new ≡ length buf.old }
@@ -309,7 +309,7 @@ impl Source for TcpSource {
 
     ghost read_gives = { λ _ _ _. ⊤ };
 
-    /// Returns each `Err` is a fault, the end of the time among them.
+    /// Reads once. Each `Err` is a fault, also that the time is over.
     fn read(&mut self, buf: &mut [u8]) -> ReadStep {
         let step = read_step(&self.read_in_time(buf));
         match step {
@@ -353,7 +353,7 @@ impl Sink for TcpSink {
 
     ghost faults = { λ s. s };
 
-    /// Returns each `Err` is a fault, the end of the time among them, and so is a write that takes nothing.
+    /// Writes once. Each `Err` is a fault, also that the time is over, and so is a write that takes nothing.
     fn write(&mut self, piece: &[u8]) -> WriteStep {
         let step = write_step(&self.half.write_on(piece), piece.len());
         match step {

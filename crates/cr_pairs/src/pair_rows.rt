@@ -22,7 +22,7 @@ use std::sync::ledger::Ledger;
 pub struct PairRows<V> {
     alloc: Global,
     order: Order,
-    // By the number of the paper, or of the user; at 0 stands an empty one.
+    // By the number of the paper, or of the user; that at 0 is empty.
     rows: Vec<PairMap<V>>,
 }
 

@@ -26,6 +26,8 @@ use Rattle.cr_base.specs.Sources.{Facts, Shown, facts_of_tables, shown_in_tables
 use Rattle.cr_base.specs.Stage.{StageState, is_late_in, stage_after}
 use Rattle.cr_base.specs.Tables.{Tables, tables_after, tables_from, tables_of}
 use Rattle.cr_base.specs.Deeds.{Deed, deed, deed_at, drawn_by, judged_by}
+use Rattle.cr_base.specs.Resolving.{resolve}
+use Rattle.cr_base.specs.declared.resolved.ResolvedCommand.{ResolvedCommand}
 use Rattle.cr_policy.specs.Legal.{unnumbered}
 use Rattle.cr_policy.proofs.BulkLaws.{RowDraws, row-draws, row-told, seen, IsReady, rows-same}
 use Rattle.cr_policy.proofs.BulkViews.{LeavesStanding}
@@ -44,7 +46,7 @@ row-drawn : (facts : Facts) (shown : Shown) (stamp : Stamp) (row : BulkRow) (dra
 row-drawn facts shown stamp row drawn accepted = by (row_command row) refl accepted
   where
     own : (command : Command) → row_command row ≡ Ok command → (b : Bool)
-        → turns_own_conflict facts stamp.maker command ≡ b
+        → turns_own_conflict stamp.maker (resolve facts.accounts command) ≡ b
         → ◌≡◌ {A = Result Drawn Rule} (cond b (Err rules.BulkSelf) (judge_by facts shown stamp command)) (Ok drawn)
         → RowDraws stamp drawn
     own command told true is accepted = cc
@@ -54,7 +56,7 @@ row-drawn facts shown stamp row drawn accepted = by (row_command row) refl accep
     by : (told : Result Command Rule) → row_command row ≡ told → row_told_judged facts shown stamp told ≡ Ok drawn
         → RowDraws stamp drawn
     by (Err rule) told accepted = cc
-    by (Ok command) told accepted = own command told (turns_own_conflict facts stamp.maker command) refl accepted
+    by (Ok command) told accepted = own command told (turns_own_conflict stamp.maker (resolve facts.accounts command)) refl accepted
 
 -- ---- what doesn't read the stamps
 
@@ -128,9 +130,10 @@ module _ (time : ℕ → ℕ) where
     judge_by-kept : (command : Command) → judge_by facts shown (kept stamp) command
         ≡ kept_result (judge_by facts shown stamp command)
     judge_by-kept command =
-        let d : Deed = deed_at facts shown stamp command in
-        ap (λ (late : Bool). judged_by (kept stamp) (deed facts shown stamp.maker late command)) same
-        ∙ grouped-judged d.checks (record stamp { maker = d.maker }) d.entries (drawn_by stamp d) refl
+        let c : ResolvedCommand = resolve facts.accounts command in
+        let d : Deed = deed_at facts shown stamp c in
+        ap (λ (late : Bool). judged_by facts.accounts (kept stamp) (deed facts shown stamp.maker late c)) same
+        ∙ grouped-judged d.checks (record stamp { maker = d.maker }) (d.first ∷ d.behind) (drawn_by facts.accounts stamp d) refl
 
     -- so is a row's
     row-kept : (row : BulkRow) → row_judged facts shown (kept stamp) row
@@ -146,7 +149,7 @@ module _ (time : ℕ → ℕ) where
         by : (told : Result Command Rule) → row_told_judged facts shown (kept stamp) told
             ≡ kept_result (row_told_judged facts shown stamp told)
         by (Err rule) = refl
-        by (Ok command) = own (turns_own_conflict facts stamp.maker command) command
+        by (Ok command) = own (turns_own_conflict stamp.maker (resolve facts.accounts command)) command
 
   -- ---- rows, calls and bulks
 

@@ -26,6 +26,7 @@ use Rattle.cr_base.specs.History.{History}
 use Rattle.cr_base.specs.HistoryFacts.{phase_of, role_of}
 use Rattle.cr_base.specs.Lists.{is_number}
 use Rattle.cr_base.specs.Phases.{committee_works}
+use Rattle.cr_base.specs.Resolving.{resolve}
 use Rattle.cr_base.specs.Sources.{Facts, Shown}
 use Rattle.cr_base.specs.Words.{is_chair}
 use Rattle.cr_history.proofs.RuleFacts.{facts_of}
@@ -114,7 +115,7 @@ module _ (user moment : ℕ) where
   facts-seen H legal = facts_in_view-tables u H (told u H legal) (forms u H legal) ∙ sym (facts-same u H legal)
 
   herself-same : (H : History) → Legal H → (command : Command)
-      → turns_own_conflict (facts_of u H) user command ≡ is_of_herself user H command
+      → turns_own_conflict user (resolve (facts_of u H).accounts command) ≡ is_of_herself user H command
   herself-same H legal (commands.SetConflict paper name on) =
       ap (λ (o : Option ℕ). is_number o user) (user-same u H legal name) ∙ at (user_named name H)
     where
@@ -136,11 +137,11 @@ module _ (user moment : ℕ) where
           ≡ may_row stamp H asked
       by (Err rule) = refl
       by (Ok command) =
-          not-ok (turns_own_conflict (seen_facts H) user command) (judge (view u H) (call_by stamp command))
+          not-ok (turns_own_conflict user (resolve (seen_facts H).accounts command)) (judge (view u H) (call_by stamp command))
           ∙
           (λ i.
           not
-          ((ap (λ (facts : Facts). turns_own_conflict facts user command) (facts-seen H legal)
+          ((ap (λ (facts : Facts). turns_own_conflict user (resolve facts.accounts command)) (facts-seen H legal)
           ∙ herself-same H legal command) i)
           && permissions_as_said H (call_by stamp command) legal i)
 

@@ -38,6 +38,8 @@ use Rattle.cr_base.specs.HistoryFacts.{own_comments_of, own_bytes_of, own_papers
 use Rattle.cr_base.specs.Phases.{is_phase, is_from, is_next, mode_may_be_set, accepts_submissions, papers_may_change}
 use Rattle.cr_base.specs.Phases.{authors_have_declared, conflicts_are_final, roles_are_final, committee_works}
 use Rattle.cr_base.specs.Phases.{bids_are_taken, responses_are_written, comments_are_written, decisions_are_made}
+use Rattle.cr_base.specs.Deeds.{is_missing}
+use Rattle.cr_base.specs.Resolving.{all_found}
 use Rattle.cr_base.specs.Sources.{number_in, users_among, role_among, paper_named, is_late, target_named}
 use Rattle.cr_base.specs.Tables.{tables_of}
 use Rattle.cr_base.specs.TagTexts.{is_for_chairs}
@@ -60,7 +62,7 @@ use Rattle.cr_permissions.specs.MayDo.{PermissionsAsSaid}
 use Rattle.cr_permissions.proofs.SentenceLaws.{both-said, none_broken, phase-same, next-same, ahead-same, time-same}
 use Rattle.cr_permissions.proofs.SentenceLaws.{member-same, chair-same, in_committee-same, above-same, over-same}
 use Rattle.cr_permissions.proofs.SentenceLaws.{early-same, none-same, at-same, fewer, up_to, accepted-checks, by_name}
-use Rattle.cr_permissions.proofs.SentenceLaws.{all_somebody}
+use Rattle.cr_permissions.proofs.SentenceLaws.{missing-same}
 
 -- ---- conflicts
 
@@ -338,11 +340,11 @@ module _ (w : ℕ) (H : History) (legal : Legal H) (m : ℕ) (key : Option Retry
       → is_ok (judge (view u H) (call_of u m key (commands.Submit title abstract names))) ≡ may_submit w m H names
   submissions title abstract names =
       accepted-checks u H legal m key (commands.Submit title abstract names)
-      ∙ said (list_any is_none (users_among (accounts_of H) names)) (list_all (λ name. is_somebody name H) names)
+      ∙ said (is_missing (accounts_of H) (all_found (users_among (accounts_of H) names))) (list_all (λ name. is_somebody name H) names)
       (accepts_submissions (phase_of H)) (now Submission H) late (in_time m H) (nat_le 9999 (length (papers_of H)))
       (nat_lt (length (papers_of H)) 9999)
       (nat_le 20 (own_papers_of u H)) (nat_lt (own_papers_of u H) 20)
-      (all_somebody u H legal names) (phase-same Submission (phase_of H)) time (fewer 9999 (length (papers_of H)))
+      (missing-same u H legal names) (phase-same Submission (phase_of H)) time (fewer 9999 (length (papers_of H)))
       (fewer 20 (own_papers_of u H))
     where
       said : (x x' n n' l l' q q' o o' : Bool) → not x ≡ x' → n ≡ n' → not l ≡ l' → not q ≡ q' → not o ≡ o'

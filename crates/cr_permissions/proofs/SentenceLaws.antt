@@ -1,11 +1,11 @@
 -- The words of the sentences against those that the lists of checks read, and what is accepted and answered by them.
-use Rattle.std.proofs.Common.{ℕ, Bool, true, false, cond, ◌≡◌, List, [], ◌∷◌, eqb, refl, sym, ap, ◌∙◌, ◌||◌, ◌&&◌}
+use Rattle.std.proofs.Common.{ℕ, Bool, true, false, cond, ◌≡◌, List, [], ◌∷◌, ◌++◌, eqb, refl, sym, ap, ◌∙◌, ◌||◌, ◌&&◌}
 use Rattle.std.proofs.Common.{arith, Option, Some, None, Result, Err}
 use Rattle.std.specs.Prelude.{not, map, nat_le, nat_lt, is_ok, is_some, is_none, find}
-use Rattle.std.specs.List.{list_any, list_all}
+use Rattle.std.specs.List.{flat_map, list_any, list_all}
 use Rattle.std.specs.Option.{option_map}
 use Rattle.std.specs.Str.{bytes_eq}
-use Rattle.std.proofs.lemmas.Bool.{eqb-true, eq-eqb, or_left, or_right}
+use Rattle.std.proofs.lemmas.Bool.{eqb-true, eq-eqb, or_left, or_right, true≢false}
 use Rattle.std.proofs.lemmas.Bool.Decides.{nat_tests}
 use Rattle.cr_base.specs.declared.command.Command.{Command}
 use Rattle.cr_base.specs.declared.command.Query.{Query}
@@ -22,13 +22,14 @@ use Rattle.cr_base.specs.Answering.{query_checks, reply_or_rule, told_by, answer
 use Rattle.cr_base.specs.Calls.{call_of, stamp_of}
 use Rattle.cr_base.specs.Checks.{Check, judged}
 use Rattle.cr_base.specs.Deadlines.{is_past}
-use Rattle.cr_base.specs.Deeds.{Deed, deed_at, drawn_by}
+use Rattle.cr_base.specs.Deeds.{Deed, deed_at, drawn_by, is_missing}
 use Rattle.cr_base.specs.Drawn.{Drawn}
-use Rattle.cr_base.specs.Lists.{at_some}
+use Rattle.cr_base.specs.Lists.{at_some, listed}
 use Rattle.cr_base.specs.History.{History, Registration, all_told, registration_told}
 use Rattle.cr_base.specs.HistoryFacts.{role_of, accounts_of, number_of}
 use Rattle.cr_base.specs.Phases.{is_phase, is_from, is_next, committee_works}
-use Rattle.cr_base.specs.Sources.{number_in, user_among, users_among, role_among}
+use Rattle.cr_base.specs.Resolving.{all_found, resolve}
+use Rattle.cr_base.specs.Sources.{is_there, number_in, user_among, users_among, role_among}
 use Rattle.cr_base.specs.Words.{is_member, is_chair, role_number}
 use Rattle.cr_history.proofs.RuleFacts.{facts_of}
 use Rattle.cr_policy.specs.Judge.{judge}
@@ -295,11 +296,13 @@ module _ (u : Option ℕ) (H : History) (legal : Legal H) where
   module _ (m : ℕ) (key : Option RetryKey) where
     -- a command is accepted exactly where its deed breaks no rule
     pub accepted-checks : (command : Command) → is_ok (judge (view u H) (call_of u m key command))
-        ≡ none_broken (deed_at (facts_of u H) (shown_of H) (stamp_of (call_of u m key command)) command).checks
+        ≡ none_broken (deed_at (facts_of u H) (shown_of H) (stamp_of (call_of u m key command))
+        (resolve (facts_of u H).accounts command)).checks
     accepted-checks command =
-        let d : Deed = deed_at (facts_of u H) (shown_of H) (stamp_of (call_of u m key command)) command in
+        let d : Deed = deed_at (facts_of u H) (shown_of H) (stamp_of (call_of u m key command))
+        (resolve (facts_of u H).accounts command) in
         ap (λ (r : Result Drawn Rule). is_ok r) (judge-history u H legal m key command)
-        ∙ judged-none_broken d.checks (drawn_by (stamp_of (call_of u m key command)) d)
+        ∙ judged-none_broken d.checks (drawn_by (facts_of u H).accounts (stamp_of (call_of u m key command)) d)
 
   -- ---- those named
 
@@ -327,6 +330,39 @@ module _ (u : Option ℕ) (H : History) (legal : Legal H) where
     where
       said : (x x' y y' : Bool) → not x ≡ x' → not y ≡ y' → not (x || y) ≡ (x' && y')
       said x x' y y' hx hy = grind arith
+
+  -- those found are there
+  all-there : (names : List (Option (List ℕ))) → list_any is_none (users_among (accounts_of H) names) ≡ false
+      → list_all (is_there (accounts_of H)) (flat_map listed (users_among (accounts_of H) names)) ≡ true
+  all-there [] none = refl
+  all-there (name ∷ names) none = by name (user_among (accounts_of H) name) refl none (all-there names)
+    where
+      by : (name : Option (List ℕ)) (found : Option ℕ) → user_among (accounts_of H) name ≡ found
+          → (is_none found || list_any is_none (users_among (accounts_of H) names)) ≡ false
+          → (list_any is_none (users_among (accounts_of H) names) ≡ false
+          → list_all (is_there (accounts_of H)) (flat_map listed (users_among (accounts_of H) names)) ≡ true)
+          → list_all (is_there (accounts_of H)) (listed found ++ flat_map listed (users_among (accounts_of H) names))
+          ≡ true
+      by name None is none rest = absurd (true≢false none)
+      by None (Some v) is none rest = cc (is)
+      by (Some n) (Some v) is none rest =
+          ap (λ (b : Bool). b && list_all (is_there (accounts_of H))
+          (flat_map listed (users_among (accounts_of H) names)))
+          (ap (λ (r : Option Role). is_some r) (role-by_name H n v is)) ∙ rest none
+
+  pub missing-same : (names : List (Option (List ℕ)))
+      → not (is_missing (accounts_of H) (all_found (users_among (accounts_of H) names)))
+      ≡ list_all (λ name. is_somebody name H) names
+  missing-same names = by (list_any is_none found) refl
+    where
+      found : List (Option ℕ)
+      found = users_among (accounts_of H) names
+
+      by : (b : Bool) → list_any is_none found ≡ b
+          → not (is_missing (accounts_of H) (cond b None (Some (flat_map listed found))))
+          ≡ list_all (λ name. is_somebody name H) names
+      by true is = ap not (sym is) ∙ all_somebody names
+      by false is = ap (λ (b : Bool). not (not b)) (all-there names is) ∙ ap not (sym is) ∙ all_somebody names
 
   -- ---- queries
 

@@ -4,9 +4,8 @@
 //! # Proved
 //!
 //! - Unless memory runs out, the answer is the first broken rule, which takes no memory, or the defined text: of all
-//!   plans with the greatest sum, the first (`best_plan`): `answer`.
-//! - If the other rules hold, `NoPlan` means that there is no plan. If there is none, the answer is `NoPlan` or lack
-//!   of memory: `answer`.
+//!   plans with the greatest sum, the first (`best_plan`). If the other rules hold, `NoPlan` means that there is no
+//!   plan. If there is none, the answer is `NoPlan` or lack of memory: `answer`.
 #![tactic(auto)]
 
 mod planned;

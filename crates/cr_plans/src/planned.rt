@@ -82,7 +82,7 @@ fn weight(bid: Bid) -> i32
     bid.raised() as i32 - 20
 }
 
-/// Adds the pair of the paper and the member at these places, if the caller may be assigned to it.
+/// Adds the pair of the paper and the member at these places, if the member may be assigned to it.
 fn push_pair(
     pairs: &mut Vec<Pair>,
     live: &Live,
@@ -128,7 +128,7 @@ fn push_pairs(
 }
 
 /// Returns all pairs, by paper, then member: each of the places of its paper and its member, and their bid. For each
-/// paper and each member what `is_free_for` of `Live` costs, and one look-up more where the caller is.
+/// paper and each member what `is_free_for` of `Live` costs, and one look-up more where the member is.
 pub(crate) fn pairs(
     alloc: Global,
     live: &Live,

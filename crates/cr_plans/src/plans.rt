@@ -10,8 +10,8 @@ use std::alloc::Global;
 
 /// Returns what a caller is answered to their query of a plan: so many more members for each paper, at most so many
 /// papers for a member. The papers are those that the caller is in no conflict with, that aren't withdrawn and have
-/// labels left for so many; the members are all, chairs among them; a member is given no paper that the caller is in
-/// conflict with or reviews. Of all such plans the one whose bids have the greatest sum, and of these the first, by
+/// labels left for so many; the members are all, chairs among them; a member is given no paper that they are in
+/// conflict with or review. Of all such plans the one whose bids have the greatest sum, and of these the first, by
 /// paper, then user number, is told as the rows of a bulk.
 ///
 /// `NotChair`; `WrongPhase` except from the bidding to the discussion; `PlanTooLarge` where there are more than 512

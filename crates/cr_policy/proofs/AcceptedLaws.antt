@@ -11,6 +11,7 @@ use Rattle.cr_base.specs.declared.command.Command.TheVariants.{Register, Tag}
 use Rattle.cr_base.specs.declared.entry.Stamped.{Stamped}
 use Rattle.cr_base.specs.declared.reply.AccountLine.{AccountLine}
 use Rattle.cr_base.specs.declared.retry.RetryKey.{RetryKey}
+use Rattle.cr_base.specs.Accounts.{lines_of}
 use Rattle.cr_base.specs.Bounds.{IsBoundedCommand}
 use Rattle.cr_base.specs.declared.entry.Stamp.{Stamp}
 use Rattle.cr_base.specs.Drawn.{Drawn}
@@ -21,9 +22,10 @@ use Rattle.cr_base.specs.Page.{is_clear_chair}
 use Rattle.cr_base.specs.Calls.{stamp_by, maker_of, stamp_of, call_of, call_by}
 use Rattle.cr_base.specs.Keys.{IsKeyOrNone}
 use Rattle.cr_base.specs.Judging.{judge_by, judge_by_role}
+use Rattle.cr_base.specs.Resolving.{resolve}
 use Rattle.cr_base.specs.Sources.{Facts, Shown}
 use Rattle.cr_base.specs.Tables.{Tables, tables_of, FitInTurn}
-use Rattle.cr_base.proofs.FitLaws.{judged-fits}
+use Rattle.cr_base.proofs.FitLaws.{resolved-fits}
 use Rattle.cr_base.proofs.ListLaws.{turned}
 use Rattle.cr_history.specs.Groups.{IsBoundedStamp, Adds}
 use Rattle.cr_history.specs.Laws.{AreTold, AreFormsTold}
@@ -189,9 +191,10 @@ accepted-fits H call drawn kept told forms is accepted =
     by : (caller : Option ℕ) (command : Command) → IsCaller H caller command
         → judge_by_role t (call_of caller call.at call.key command) ≡ Ok drawn → FitInTurn t drawn.group
     by (Some user) command is accepted =
-        judged-fits t (sized-tables H kept.fits).ties (stamp_by user call.at call.key) command drawn accepted
+        resolved-fits t (sized-tables H kept.fits).ties (stamp_by user call.at call.key)
+        (resolve (lines_of t.accounts) command) drawn accepted
     by None (Register name digest) is accepted =
-        judged-fits t (sized-tables H kept.fits).ties (stamp_by 0 call.at call.key) (Register name digest) drawn
-        accepted
+        resolved-fits t (sized-tables H kept.fits).ties (stamp_by 0 call.at call.key)
+        (resolve (lines_of t.accounts) (Register name digest)) drawn accepted
     by None (Tag paper tag on) is accepted = absurd (tags-user H None paper tag on is)
     by None command is accepted = absurd is

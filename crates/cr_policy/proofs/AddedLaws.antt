@@ -22,14 +22,15 @@ use Rattle.cr_base.specs.declared.words.Role.TheVariants.{Account, Chair}
 use Rattle.cr_base.specs.Checks.{target_is}
 use Rattle.cr_base.specs.Calls.{stamp_by, stamp_of, call_of}
 use Rattle.cr_base.specs.Checks.{of_role, unassign_checks}
-use Rattle.cr_base.specs.Deeds.{Deed, deed_at, drawn_by}
+use Rattle.cr_base.specs.Deeds.{Deed, deed_at, drawn_by, is_missing}
+use Rattle.cr_base.specs.Resolving.{resolve}
 use Rattle.cr_base.specs.Drawn.{alone, Drawn, grouped, registration, besides, submission}
 use Rattle.cr_base.specs.History.{History, FormTold}
 use Rattle.cr_base.specs.HistoryFacts.{standing_of, accounts_of, ordinal_of, forms_of, own_forms_of, is_invited}
 use Rattle.cr_base.specs.HistoryFacts.{is_written}
 use Rattle.cr_base.specs.Lists.{listed, given, at_some, is_number, is_nothing}
 use Rattle.cr_base.specs.Reviews.{forms_in, written_told}
-use Rattle.cr_base.specs.Sources.{user_among, users_among, role_among, paper_named, target_named}
+use Rattle.cr_base.specs.Sources.{name_in, user_among, users_among, role_among, paper_named, target_named}
 use Rattle.cr_base.specs.Tables.{tables_of}
 use Rattle.cr_base.specs.Words.{is_member}
 use Rattle.cr_base.proofs.CheckLaws.{NoneBroken, judged-Ok}
@@ -42,6 +43,7 @@ use Rattle.cr_policy.specs.Legal.{IsCaller, Legal}
 use Rattle.cr_policy.specs.Sentences.{user_named}
 use Rattle.cr_policy.specs.View.{view}
 use Rattle.cr_policy.proofs.JudgedByHistory.{shown_of, told, forms, judge-history, number-same}
+use Rattle.cr_policy.proofs.ReceiptLaws.{found-named}
 
 -- ---- groups
 
@@ -140,7 +142,7 @@ module _ (u : Option ℕ) (H : History) (legal : Legal H) where
 
     -- what a command does, by the facts of the history
     abbrev deed_of : Command → Deed
-    deed_of command = deed_at (facts_of u H) (shown_of H) (stamp_at command) command
+    deed_of command = deed_at (facts_of u H) (shown_of H) (stamp_at command) (resolve (facts_of u H).accounts command)
 
     -- that adds what its line says
     abbrev Adds : Command → Drawn → Type 0
@@ -149,16 +151,16 @@ module _ (u : Option ℕ) (H : History) (legal : Legal H) where
 
     -- so what is drawn where it is accepted does
     accepted-adds : (command : Command) (drawn : Drawn) → judge (view u H) (call_of u m key command) ≡ Ok drawn
-        → (NoneBroken (deed_of command).checks → Adds command (drawn_by (stamp_at command) (deed_of command)))
+        → (NoneBroken (deed_of command).checks → Adds command (drawn_by (facts_of u H).accounts (stamp_at command) (deed_of command)))
         → Adds command drawn
     accepted-adds command drawn accepted adds =
-        let k = judged-Ok (deed_of command).checks (drawn_by (stamp_at command) (deed_of command)) drawn
+        let k = judged-Ok (deed_of command).checks (drawn_by (facts_of u H).accounts (stamp_at command) (deed_of command)) drawn
         (sym (judge-history u H legal m key command) ∙ accepted) in
         subst (Adds command) k.1 (adds k.0)
 
     registered : (name digest : List ℕ)
         → Adds (commands.Register name digest)
-        (drawn_by (stamp_at (commands.Register name digest)) (deed_of (commands.Register name digest)))
+        (drawn_by (facts_of u H).accounts (stamp_at (commands.Register name digest)) (deed_of (commands.Register name digest)))
     registered name digest =
         let stamp : Stamp = stamp_added H (call_of u m key (commands.Register name digest)) in
         let group : List Entry = registration (next_user H) name digest in
@@ -176,9 +178,8 @@ module _ (u : Option ℕ) (H : History) (legal : Legal H) where
         first [] = refl
         first (a ∷ lines) =
             ap
-            (λ (b : Bool). cond b (entries.Registered (length (a ∷ lines) + 1) name digest
-            ∷ entries.Named (length (a ∷ lines) + 1) Chair ∷ [])
-            (entries.Registered (length (a ∷ lines) + 1) name digest ∷ [])) (later (length lines))
+            (λ (b : Bool). entries.Registered (length (a ∷ lines) + 1) name digest
+            ∷ cond b (entries.Named (length (a ∷ lines) + 1) Chair ∷ []) []) (later (length lines))
 
 -- of a user
 module _ (w : ℕ) (H : History) (legal : Legal H) (m : ℕ) (key : Option RetryKey) where
@@ -218,37 +219,69 @@ module _ (w : ℕ) (H : History) (legal : Legal H) (m : ℕ) (key : Option Retry
   for-target p name entry receipt there =
       for-user (λ (target : Option ℕ). is_none (asked p target)) name entry receipt refl there
 
-  -- and one that changes the role of a user
-  for-role : (name : List ℕ) (entry : ℕ → Entry) (receipt : Receipt)
+  -- whoever is found by a name has it
+  has-name : (name : List ℕ)
       → is_none (option_map of_role (role_among (accounts_of H) (user_among (accounts_of H) (Some name)))) ≡ false
-      → IsAdded stamp (for_user (Some name) H entry) (receipt ∷ [])
+      → unwrap_or (name_in (accounts_of H) (unwrap_or (user_among (accounts_of H) (Some name)) 0)) [] ≡ name
+  has-name name there = by (user_among (accounts_of H) (Some name)) refl there
+    where
+      by : (target : Option ℕ) → user_among (accounts_of H) (Some name) ≡ target
+          → is_none (option_map of_role (role_among (accounts_of H) target)) ≡ false
+          → unwrap_or (name_in (accounts_of H) (unwrap_or target 0)) [] ≡ name
+      by None is there = absurd (true≢false there)
+      by (Some v) is there = ap (λ (o : Option (List ℕ)). unwrap_or o [])
+          (found-named H legal name v (sym (user-same u H legal (Some name)) ∙ is))
+
+  -- and one that changes the role of a user, whose name the receipt tells
+  for-role : (name : List ℕ) (entry : ℕ → Entry) (receipt : List ℕ → Receipt)
+      → is_none (option_map of_role (role_among (accounts_of H) (user_among (accounts_of H) (Some name)))) ≡ false
+      → IsAdded stamp (for_user (Some name) H entry) (receipt name ∷ [])
       (record {
         group = grouped stamp (entry (unwrap_or (user_among (accounts_of H) (Some name)) 0) ∷ []);
-        receipt = receipt;
+        receipt = receipt
+            (unwrap_or (name_in (accounts_of H) (unwrap_or (user_among (accounts_of H) (Some name)) 0)) []);
       })
   for-role name entry receipt there =
-      for-user (λ (target : Option ℕ). is_none (option_map of_role (role_among (accounts_of H) target))) (Some name)
-      entry receipt refl there
+      subst
+      (λ (told : List ℕ). IsAdded stamp (for_user (Some name) H entry) (receipt name ∷ [])
+      (record {
+        group = grouped stamp (entry (unwrap_or (user_among (accounts_of H) (Some name)) 0) ∷ []);
+        receipt = receipt told;
+      })) (sym (has-name name there))
+      (for-user (λ (target : Option ℕ). is_none (option_map of_role (role_among (accounts_of H) target))) (Some name)
+      entry (receipt name) refl there)
 
   does : (command : Command) → NoneBroken (deed_of u H legal m key command).checks
-      → Adds u H legal m key command (drawn_by stamp (deed_of u H legal m key command))
+      → Adds u H legal m key command (drawn_by (facts_of u H).accounts stamp (deed_of u H legal m key command))
   does (commands.Register name digest) none = registered u H legal m key name digest
   does (commands.SetPhase to) none = group-added stamp (entries.PhaseSet to ∷ []) (receipts.Phase to)
   does (commands.SetDeadline phase until) none =
       group-added stamp (entries.DeadlineSet phase until ∷ []) (receipts.Deadline phase until)
   does (commands.SetMode to) none = group-added stamp (entries.ModeSet to ∷ []) (receipts.Mode to)
-  does (commands.Submit title abstract names) none =
-      let told : List ℕ = flat_map listed (users_among (accounts_of H) names) in
-      subst
-      (λ (us : List ℕ). IsAdded stamp (entries.Submitted (next_paper H) title abstract
-      ∷ map (λ (v : ℕ). entries.Coauthor (next_paper H) v) us)
-      (receipts.Paper (next_paper H) ∷ [])
-      (record {
-        group = grouped stamp (submission w (next_paper H) title abstract told);
-        receipt = receipts.Paper (next_paper H);
-      }))
-      (others-once w told ∙ ap (λ (us : List ℕ). without w (once us)) (users-same u H legal names))
-      (group-added stamp (submission w (next_paper H) title abstract told) (receipts.Paper (next_paper H)))
+  does (commands.Submit title abstract names) none = by (list_any is_none (users_among (accounts_of H) names)) none.0
+    where
+      told : List ℕ
+      told = flat_map listed (users_among (accounts_of H) names)
+
+      by : (missing : Bool) → is_missing (accounts_of H) (cond missing None (Some told)) ≡ false
+          → IsAdded stamp (added u H (commands.Submit title abstract names)) (receipts.Paper (next_paper H) ∷ [])
+          (record {
+            group = grouped stamp
+                (submission w (next_paper H) title abstract (unwrap_or (cond missing None (Some told)) []));
+            receipt = receipts.Paper (next_paper H);
+          })
+      by true there = absurd (true≢false there)
+      by false there =
+          subst
+          (λ (us : List ℕ). IsAdded stamp (entries.Submitted (next_paper H) title abstract
+          ∷ map (λ (v : ℕ). entries.Coauthor (next_paper H) v) us)
+          (receipts.Paper (next_paper H) ∷ [])
+          (record {
+            group = grouped stamp (submission w (next_paper H) title abstract told);
+            receipt = receipts.Paper (next_paper H);
+          }))
+          (others-once w told ∙ ap (λ (us : List ℕ). without w (once us)) (users-same u H legal names))
+          (group-added stamp (submission w (next_paper H) title abstract told) (receipts.Paper (next_paper H)))
   does (commands.Revise None title abstract) none = absurd (true≢false none.0)
   does (commands.Revise (Some p) title abstract) none =
       group-added stamp (entries.Revised p title abstract ∷ []) (receipts.Changed p)
@@ -272,10 +305,10 @@ module _ (w : ℕ) (H : History) (legal : Legal H) (m : ℕ) (key : Option Retry
       group-added stamp (entries.Decided p decision ∷ []) (receipts.Changed p)
   does (commands.Name None role) none = absurd (true≢false none.0)
   does (commands.Name (Some name) role) none =
-      for-role name (λ v. entries.Named v role) (receipts.Named name role) none.0
+      for-role name (λ v. entries.Named v role) (λ told. receipts.Named told role) none.0
   does (commands.Dismiss None) none = absurd (true≢false none.0)
   does (commands.Dismiss (Some name)) none =
-      for-role name (λ v. entries.Dismissed v) (receipts.Named name Account) none.0
+      for-role name (λ v. entries.Dismissed v) (λ told. receipts.Named told Account) none.0
   does (commands.Invite None name) none = absurd (true≢false none.0)
   does (commands.Invite (Some p) name) none =
       for-target p name (λ v. entries.Invited p v) (receipts.Changed p) none.1.0

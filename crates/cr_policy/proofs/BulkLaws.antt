@@ -26,6 +26,7 @@ use Rattle.cr_base.specs.History.{History}
 use Rattle.cr_base.specs.Judging.{judge_by}
 use Rattle.cr_base.specs.Lists.{is_number}
 use Rattle.cr_base.specs.Parse.{parse_paper}
+use Rattle.cr_base.specs.Resolving.{resolve}
 use Rattle.cr_base.specs.Sources.{Facts, Shown, user_among, target_named, facts_of_tables}
 use Rattle.cr_base.specs.Sources.{shown_in_tables}
 use Rattle.cr_base.specs.Tables.{Tables, tables_of, tables_from, Fits, FitInTurn}
@@ -98,7 +99,7 @@ pub record RowDraws (stamp : Stamp) (drawn : Drawn) : Type 0 where
 
 module _ (facts : Facts) (shown : Shown) (stamp : Stamp) where
   abbrev deed_of : Command → Deed
-  deed_of command = deed_at facts shown stamp command
+  deed_of command = deed_at facts shown stamp (resolve facts.accounts command)
 
   -- one entry, which leaves how its maker stands
   abbrev LeavesOne : List Entry → Type 0
@@ -113,9 +114,9 @@ module _ (facts : Facts) (shown : Shown) (stamp : Stamp) where
   other-named paper (Some v) there other = other
 
   -- a row's command, where no rule is broken, makes such
-  row-leaves : (command : Command) → IsRowCommand command → turns_own_conflict facts stamp.maker command ≡ false
+  row-leaves : (command : Command) → IsRowCommand command → turns_own_conflict stamp.maker (resolve facts.accounts command) ≡ false
       → NoneBroken (deed_of command).checks
-      → ((deed_of command).maker ≡ stamp.maker) × LeavesOne (deed_of command).entries
+      → ((deed_of command).maker ≡ stamp.maker) × LeavesOne ((deed_of command).first ∷ (deed_of command).behind)
   row-leaves (SetConflict paper name on) of_row other none =
       (refl, other-named paper (user_among facts.accounts name) none.1.0 other)
   row-leaves (Assign paper name kind) of_row other none = (refl, tt)
@@ -124,14 +125,14 @@ module _ (facts : Facts) (shown : Shown) (stamp : Stamp) where
   row-leaves command of_row other none = absurd of_row
 
   pub row-draws : (command : Command) (drawn : Drawn) → IsRowCommand command
-      → turns_own_conflict facts stamp.maker command ≡ false
+      → turns_own_conflict stamp.maker (resolve facts.accounts command) ≡ false
       → judge_by facts shown stamp command ≡ Ok drawn → RowDraws stamp drawn
   row-draws command drawn of_row other accepted =
       let d : Deed = deed_of command in
-      let k = judged-Ok d.checks (drawn_by stamp d) drawn accepted in
+      let k = judged-Ok d.checks (drawn_by facts.accounts stamp d) drawn accepted in
       let leaves = row-leaves command of_row other k.0 in
-      by d.entries (sym (ap (λ (x : Drawn). x.group) k.1)
-      ∙ ap (λ (m : ℕ). grouped (record stamp { maker = m }) d.entries) leaves.0) leaves.1
+      by (d.first ∷ d.behind) (sym (ap (λ (x : Drawn). x.group) k.1)
+      ∙ ap (λ (m : ℕ). grouped (record stamp { maker = m }) (d.first ∷ d.behind)) leaves.0) leaves.1
     where
       by : (es : List Entry) → drawn.group ≡ grouped stamp es → LeavesOne es → RowDraws stamp drawn
       by [] is leaves = absurd leaves
@@ -203,7 +204,8 @@ module _ (stamp : Stamp) where
     pub is : row_command row ≡ Ok command
     pub told : IsTold command
     pub caller : IsCaller H (Some user) command
-    pub other : turns_own_conflict (facts_in_view (Some user) (view (Some user) H)) user command ≡ false
+    pub other : turns_own_conflict user
+        (resolve (facts_in_view (Some user) (view (Some user) H)).accounts command) ≡ false
     pub accepted : judge (view (Some user) H) (call_by stamp command) ≡ Ok drawn
 
   pub row-calls : (H : History) (row : BulkRow) (drawn : Drawn) → IsReady H → row_seen H row ≡ Ok drawn
@@ -219,9 +221,9 @@ module _ (stamp : Stamp) where
       by : (told : Result Command Rule) → row_command row ≡ told → row_told_judged facts shown stamp told ≡ Ok drawn
           → RowCalls H row drawn
       by (Err rule) is accepted = cc
-      by (Ok command) is accepted = own (turns_own_conflict facts user command) refl accepted
+      by (Ok command) is accepted = own (turns_own_conflict user (resolve facts.accounts command)) refl accepted
         where
-          own : (b : Bool) → turns_own_conflict facts user command ≡ b
+          own : (b : Bool) → turns_own_conflict user (resolve facts.accounts command) ≡ b
               → ◌≡◌ {A = Result Drawn Rule} (cond b (Err rules.BulkSelf) (judge_by facts shown stamp command))
               (Ok drawn) → RowCalls H row drawn
           own true herself accepted = cc
@@ -320,12 +322,12 @@ module _ (stamp : Stamp) where
           ≡ row_told_judged (facts_of_tables (tables_of H) (Some user)) (shown_in_tables (tables_of H)) stamp command
       by (Err rule) = refl
       by (Ok command) =
-          ap (λ (facts : Facts). cond (turns_own_conflict facts user command) (Err rules.BulkSelf)
+          ap (λ (facts : Facts). cond (turns_own_conflict user (resolve facts.accounts command)) (Err rules.BulkSelf)
           (judge (view (Some user) H) (call_by stamp command)))
           (facts_in_view-tables (Some user) H told forms)
           ∙ ap
-          (λ (r : Result Drawn Rule). cond (turns_own_conflict (facts_of_tables (tables_of H) (Some user)) user
-          command) (Err rules.BulkSelf) r)
+          (λ (r : Result Drawn Rule). cond (turns_own_conflict user
+          (resolve (facts_of_tables (tables_of H) (Some user)).accounts command)) (Err rules.BulkSelf) r)
           (judge-tables H (call_by stamp command) kept told forms)
 
   pub rows-same : (rows : List BulkRow) (n : ℕ) (H : History) → IsReady H → seen H n rows ≡ tabled H n rows

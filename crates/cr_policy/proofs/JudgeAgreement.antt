@@ -7,15 +7,15 @@ use Rattle.std.specs.Option.{option_map}
 use Rattle.std.proofs.lemmas.Bool.{and_parts, not-false, or_left, or_right, true≢false}
 use Rattle.std.proofs.lemmas.Bool.Decides.{nat_tests}
 use Rattle.cr_base.specs.declared.command.Call.{Call}
-use Rattle.cr_base.specs.declared.command.Command.{Command}
 use Rattle.cr_base.specs.declared.entry.Entry.TheVariants as entries
 use Rattle.cr_base.specs.declared.entry.Entry.TheVariants.{Revised, Uploaded, Withdrawn, Conflict, Assigned, Unassigned}
 use Rattle.cr_base.specs.declared.entry.Entry.TheVariants.{Reviewed, Commented, Tagged, Decided, Invited, Uninvited}
 use Rattle.cr_base.specs.declared.entry.Entry.TheVariants.{Responded}
 use Rattle.cr_base.specs.declared.entry.Stamp.{Stamp}
-use Rattle.cr_base.specs.declared.command.Command.TheVariants as commands
 use Rattle.cr_base.specs.declared.reply.Rule.{Rule}
 use Rattle.cr_base.specs.declared.reply.Rule.TheVariants as rules
+use Rattle.cr_base.specs.declared.resolved.ResolvedCommand.{ResolvedCommand}
+use Rattle.cr_base.specs.declared.resolved.ResolvedCommand.TheVariants as resolved
 use Rattle.cr_base.specs.declared.standing.Standing.{Standing}
 use Rattle.cr_base.specs.declared.target.Target.{Target}
 use Rattle.cr_base.specs.declared.words.Phase.{Phase}
@@ -38,8 +38,9 @@ use Rattle.cr_base.specs.Tables.{tables_of}
 use Rattle.cr_base.specs.TagTexts.{is_for_chairs}
 use Rattle.cr_base.specs.Words.{is_anonymous, is_member, is_chair}
 use Rattle.cr_base.specs.Drawn.{Drawn, alone}
-use Rattle.cr_base.specs.Judging.{judge_by, judge_by_role}
-use Rattle.cr_base.specs.Sources.{Facts, Shown, user_among, role_among, has_paper, paper_named, target_named}
+use Rattle.cr_base.specs.Judging.{judge_resolved, judge_by, judge_by_role}
+use Rattle.cr_base.specs.Resolving.{resolve}
+use Rattle.cr_base.specs.Sources.{Facts, Shown, role_among, has_paper, paper_named, target_named}
 use Rattle.cr_base.specs.Sources.{standing_at}
 use Rattle.cr_base.specs.Sources.{is_accepted_in, is_late, facts_of_tables, shown_in_tables}
 use Rattle.cr_base.proofs.CheckLaws.{NoneBroken, judged-behind, asked-behind}
@@ -563,61 +564,57 @@ module _ (facts : Facts) (shown tabled : Shown) (same : Agree facts shown tabled
           (asked-same (drawn (asked_of shown (Some role))) (Some role) none.1.1.0 none.1.1.1.0 none.1.1.1.1.0))
 
 -- so what is shown makes no other judgement than what the tables hold
-command-same : (facts : Facts) (shown tabled : Shown) (stamp : Stamp) (command : Command) → Agree facts shown tabled
-    → judge_by facts shown stamp command
-    ≡ judge_by facts tabled stamp command
-command-same facts shown tabled stamp (commands.Revise (Some p) title abstract) same =
+resolved-same : (facts : Facts) (shown tabled : Shown) (stamp : Stamp) (command : ResolvedCommand) → Agree facts shown tabled
+    → judge_resolved facts shown stamp command
+    ≡ judge_resolved facts tabled stamp command
+resolved-same facts shown tabled stamp (resolved.Revise (Some p) title abstract) same =
     author-same facts shown tabled same p (is_late facts stamp.at) [] (λ _. alone stamp (Revised p title abstract))
-command-same facts shown tabled stamp (commands.Upload (Some p) content) same =
+resolved-same facts shown tabled stamp (resolved.Upload (Some p) content) same =
     author-same facts shown tabled same p (is_late facts stamp.at)
     (nat_lt 67108864 (facts.own_bytes + length content) breaks rules.QuotaBytes ∷ [])
     (λ uploads. alone stamp (Uploaded p (length uploads + 1) content))
-command-same facts shown tabled stamp (commands.Withdraw (Some p)) same =
+resolved-same facts shown tabled stamp (resolved.Withdraw (Some p)) same =
     author-same facts shown tabled same p (is_late facts stamp.at) [] (λ _. alone stamp (Withdrawn p))
-command-same facts shown tabled stamp (commands.SetConflict paper name on) same =
-    conflict-same facts shown tabled stamp paper (user_among facts.accounts name) on same
-command-same facts shown tabled stamp (commands.Bid (Some p) value) same =
+resolved-same facts shown tabled stamp (resolved.SetConflict paper target on) same =
+    conflict-same facts shown tabled stamp paper target on same
+resolved-same facts shown tabled stamp (resolved.Bid (Some p) value) same =
     bid-same facts shown tabled same p (is_late facts stamp.at) (alone stamp (entries.Bid p value))
-command-same facts shown tabled stamp (commands.Assign (Some p) name kind) same =
-    let target : Option ℕ = user_among facts.accounts name in
+resolved-same facts shown tabled stamp (resolved.Assign (Some p) target kind) same =
     reviewer-same facts shown tabled same stamp p target
     (λ asked. not (target_is is_of_paper asked.user) breaks rules.NotAMember
     ∷ target_is (λ (user : Target). user.conflicted) asked.user breaks rules.TargetConflict
     ∷ target_is (λ (user : Target). user.reviewer) asked.user breaks rules.AlreadyAssigned
     ∷ nat_le 26 asked.labels breaks rules.LabelsSpent ∷ [])
     (λ asked. alone stamp (Assigned p (unwrap_or target 0) kind (asked.labels + 1)))
-command-same facts shown tabled stamp (commands.Unassign (Some p) name) same =
-    let target : Option ℕ = user_among facts.accounts name in
+resolved-same facts shown tabled stamp (resolved.Unassign (Some p) target) same =
     reviewer-same facts shown tabled same stamp p target
     (λ asked. not (target_is (λ (user : Target). user.reviewer) asked.user) breaks rules.NotAssigned
     ∷ asked.written breaks rules.HasReview ∷ [])
     (λ asked. alone stamp (Unassigned p (unwrap_or target 0) (unwrap_or asked.ordinal 0)))
-command-same facts shown tabled stamp (commands.Invite (Some p) name) same =
-    let target : Option ℕ = user_among facts.accounts name in
+resolved-same facts shown tabled stamp (resolved.Invite (Some p) target) same =
     reviewer-same facts shown tabled same stamp p target
     (λ asked. is_member (target_role asked.user) breaks rules.IsMember
     ∷ target_is (λ (user : Target). user.conflicted) asked.user breaks rules.TargetConflict
     ∷ asked.invited breaks rules.AlreadyInvited ∷ [])
     (λ asked. alone stamp (Invited p (unwrap_or target 0)))
-command-same facts shown tabled stamp (commands.Uninvite (Some p) name) same =
-    let target : Option ℕ = user_among facts.accounts name in
+resolved-same facts shown tabled stamp (resolved.Uninvite (Some p) target) same =
     reviewer-same facts shown tabled same stamp p target
     (λ asked. not asked.invited breaks rules.NotInvited
     ∷ target_is (λ (user : Target). user.reviewer) asked.user breaks rules.StillAssigned ∷ [])
     (λ asked. alone stamp (Uninvited p (unwrap_or target 0)))
-command-same facts shown tabled stamp (commands.Review (Some p) form) same =
+resolved-same facts shown tabled stamp (resolved.Review (Some p) form) same =
     review-same facts shown tabled same p (is_late facts stamp.at)
     (alone stamp (Reviewed p (unwrap_or (facts.own_ordinal p) 0) (length (facts.own_forms p) + 1) form))
-command-same facts shown tabled stamp (commands.Respond (Some p) text) same =
+resolved-same facts shown tabled stamp (resolved.Respond (Some p) text) same =
     respond-same facts shown tabled same p (is_late facts stamp.at) (alone stamp (Responded p text))
-command-same facts shown tabled stamp (commands.Comment (Some p) text) same =
+resolved-same facts shown tabled stamp (resolved.Comment (Some p) text) same =
     comment-same facts shown tabled same p facts.own_comments (is_late facts stamp.at)
     (λ n. alone stamp (Commented p (n + 1) (facts.own_ordinal p) text))
-command-same facts shown tabled stamp (commands.Tag (Some p) tag on) same =
+resolved-same facts shown tabled stamp (resolved.Tag (Some p) tag on) same =
     tag-same facts shown tabled same p (is_for_chairs tag) (alone stamp (Tagged p tag on))
-command-same facts shown tabled stamp (commands.Decide (Some p) decision) same =
+resolved-same facts shown tabled stamp (resolved.Decide (Some p) decision) same =
     decide-same facts shown tabled same p (alone stamp (Decided p decision))
-command-same facts shown tabled stamp command same = refl
+resolved-same facts shown tabled stamp command same = refl
 
 -- the judgement by any user's view is the one by the tables
 pub judge-tables : (H : History) (call : Call) → Invariants H → AreTold H → AreFormsTold H
@@ -626,8 +623,8 @@ judge-tables H call kept told forms =
     let u : Option ℕ = call.caller in
     ap (λ (facts : Facts). judge_by facts (shown_in_view u (view u H)) (stamp_of call) call.command)
     (facts_in_view-tables u H told forms)
-    ∙ command-same (facts_of_tables (tables_of H) u) (shown_in_view u (view u H)) (shown_in_tables (tables_of H))
-    (stamp_of call) call.command (record {
+    ∙ resolved-same (facts_of_tables (tables_of H) u) (shown_in_view u (view u H)) (shown_in_tables (tables_of H))
+    (stamp_of call) (resolve (facts_of_tables (tables_of H) u).accounts call.command) (record {
       withdrawn = λ p may. withdrawn-tables u H told p may;
       authors = λ p may.
           authors-tables u H told p (also_accepted (standing_at (tables_of H) u (Some p))

@@ -24,7 +24,7 @@ use Rattle.cr_base.specs.Drawn.{Drawn, grouped, receipt_of}
 use Rattle.cr_base.specs.History.{History, Registration, all_told, registration_told}
 use Rattle.cr_base.specs.HistoryFacts.{role_of, accounts_of, number_of, ordinal_of}
 use Rattle.cr_base.specs.Lists.{listed}
-use Rattle.cr_base.specs.Retries.{name_told_by}
+use Rattle.cr_base.specs.Sources.{name_told_by}
 use Rattle.cr_base.specs.Sources.{name_in}
 use Rattle.cr_base.specs.Tables.{tables_of}
 use Rattle.cr_base.proofs.ListLaws.{name_in-lines_of}
@@ -97,7 +97,7 @@ names-stay H group (entries.Dismissed user) name is = name-stays H group user na
 names-stay H group e name is = is
 
 -- who is found by a name has it, on a legal history
-found-named : (H : History) (legal : Legal H) (name : List ℕ) (user : ℕ) → number_of name H ≡ Some user
+pub found-named : (H : History) (legal : Legal H) (name : List ℕ) (user : ℕ) → number_of name H ≡ Some user
     → name_in (accounts_of H) user ≡ Some name
 found-named H legal name user is =
     let told = Legal-told H legal in

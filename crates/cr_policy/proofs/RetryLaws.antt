@@ -24,7 +24,8 @@ use Rattle.cr_base.specs.History.{History}
 use Rattle.cr_base.specs.HistoryFacts.{accounts_of}
 use Rattle.cr_base.specs.Keys.{has_number, kept_under}
 use Rattle.cr_base.specs.Lists.{is_number}
-use Rattle.cr_base.specs.Retries.{KeptCall, name_told_by, kept_call, kept_of}
+use Rattle.cr_base.specs.Retries.{KeptCall, kept_call, kept_of}
+use Rattle.cr_base.specs.Sources.{name_told_by}
 use Rattle.cr_base.specs.Rows.{key_mark}
 use Rattle.cr_base.proofs.ListLaws.{turned}
 use Rattle.cr_policy.specs.Laws.{KeptFromView}

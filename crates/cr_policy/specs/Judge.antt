@@ -11,12 +11,14 @@ use Rattle.cr_base.specs.declared.entry.Stamped.{Stamped}
 use Rattle.cr_base.specs.declared.reply.Reply.{Reply}
 use Rattle.cr_base.specs.declared.reply.Rule.{Rule}
 use Rattle.cr_base.specs.declared.reply.Rule.TheVariants as rules
+use Rattle.cr_base.specs.declared.resolved.ResolvedCall.{ResolvedCall}
 use Rattle.cr_base.specs.Answering.{answer_by, login_wanted}
 use Rattle.cr_base.specs.Bulk.{Basis, row_judged, bulk_judged}
-use Rattle.cr_base.specs.Calls.{BulkCall, stamp_of}
+use Rattle.cr_base.specs.Calls.{BulkCall, stamp_by, maker_of}
 use Rattle.cr_base.specs.Drawn.{Drawn}
 use Rattle.cr_base.specs.History.{History}
-use Rattle.cr_base.specs.Judging.{judge_by}
+use Rattle.cr_base.specs.Judging.{judge_resolved}
+use Rattle.cr_base.specs.Resolving.{resolve_call}
 use Rattle.cr_base.specs.Retries.{Outcome, settled}
 use Rattle.cr_policy.specs.Part.{own_parts}
 use Rattle.cr_policy.specs.Sighting.{sighting}
@@ -24,11 +26,16 @@ use Rattle.cr_policy.specs.View.{View}
 use Rattle.cr_policy.specs.ViewFacts.{facts_in_view, shown_in_view}
 use Rattle.cr_policy.specs.ViewRetries.{kept_in_view}
 
--- Judge, on the caller's view: the first broken rule of the command's list, or the entries that it adds and its
--- receipt
+-- Judge of a command whose users are told by number, on the caller's view: the first broken rule of the command's list,
+-- or the entries that it adds and its receipt
+abbrev pub judge_by_number : View → ResolvedCall → Result Drawn Rule
+judge_by_number V call =
+    judge_resolved (facts_in_view call.caller V) (shown_in_view call.caller V)
+    (stamp_by (maker_of call.caller) call.at call.key) call.command
+
+-- Judge: that of the command with whom it names looked up among the accounts that the view shows
 abbrev pub judge : View → Call → Result Drawn Rule
-judge V call =
-    judge_by (facts_in_view call.caller V) (shown_in_view call.caller V) (stamp_of call) call.command
+judge V call = judge_by_number V (resolve_call (facts_in_view call.caller V).accounts call)
 
 -- what a command comes to: before Judge stands the look-up of its number among the caller's own entries
 abbrev pub decide : View → Call → Outcome Rule

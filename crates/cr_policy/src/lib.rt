@@ -1,23 +1,19 @@
 //! Which parts of the history a user sees, and what follows: the visibility policy, the view that it selects,
-//! judgement and answer by a view, and legal histories.
-//!
-//! Theorems that the program doesn't rest on are in cr_bounds, cr_conference, cr_permissions, cr_told, cr_undeduced
-//! and cr_laws.
+//! judgement and answer by a view, and legal histories. Theorems that the program doesn't rest on are in crates of
+//! their own.
 //!
 //! # Proved
 //!
-//! - A view tells its user's phase, mode, role and relations to any paper, and what is public. It does for every
-//!   history, and for an unauthenticated caller: `law_standing` (`standing`, `public`).
-//! - The tables judge every command and bulk, and answer every query, as the view does: `law_view_suffices`. Each row
-//!   of a bulk is judged on the view followed by what the rows before it add. Scope: legal histories; registered
-//!   users, and unauthenticated callers if no authentication is required.
-//! - Every legal history keeps the invariants that its comment lists: `law_legal` (`invariants`).
-//! - A view of a legal history shows a digest only to its user: `law_legal` (`own_digests`).
-//! - What was accepted under a user's number can be read off their view: request digest, receipt, how many entries. In
-//!   a legal history these are one command's: `law_retries` (`kept`, `once`).
-//! - An author's view of a legal history tells which users the paper's authors declared in conflict: `law_declared`.
-//! - Histories that [differ unseen](../../../docs/CLAIMS.md#what-may-differ-without-being-seen), also by when, and by
-//!   which numbers, others made their entries: `law_hidden_payload` (`stamps`), `law_removed`.
+//! - A view tells its user's phase, mode, role and relations to any paper, and what is public: `law_standing`
+//!   (`standing`, `public`).
+//! - The tables judge every command and bulk, and answer every query, as the view does: `law_view_suffices`. Scope:
+//!   legal histories; registered users, and unauthenticated callers if no authentication is required.
+//! - Every legal history keeps the invariants that its comment lists, and shows a digest only to its user: `law_legal`
+//!   (`invariants`, `own_digests`).
+//! - What was accepted under a user's number can be read off their view: `law_retries` (`kept`, `once`); which users
+//!   authors declared in conflict, off an author's: `law_declared`.
+//! - Histories that [differ unseen](../../../docs/CLAIMS.md#what-may-differ-without-being-seen): `law_hidden_payload`
+//!   (`stamps`), `law_removed`.
 //! - Four small histories are legal, one of which goes on with a bulk: `law_witness`.
 //!
 //! # Not claimed

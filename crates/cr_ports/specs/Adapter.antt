@@ -9,7 +9,7 @@ pub record Adapter (T : Type 0) : Type 0 where
   pub stream : T
   pub faults : ℕ
 
--- the front of the piece that was taken stands behind what was there; where the write failed, some front of it
+-- after what was there comes the front of the piece that was taken; if the write failed, some front of it
 abbrev pub HasWritten : WriteStep → Option (List ℕ) → Option (List ℕ) → List ℕ → Type 0
 HasWritten (Took n) old new piece = Appends old new (take n piece)
 HasWritten Failed old new piece = (n : ℕ) × Appends old new (take n piece)

@@ -23,8 +23,8 @@ abbrev pub step_of : Option ℕ → ClockStep
 step_of (Some at) = Now at
 step_of None = Failed
 
--- What the system's time is told as: its whole seconds since 1970, where they are a moment's. An error, whichever it
--- is, is a fault.
+-- A clock's answer from the system's time: its whole seconds since 1970, if a Moment can hold them. Any error is a
+-- fault.
 abbrev pub system_step : {E : Type 0} → Result SystemTime E → ClockStep
 system_step (Ok time) = step_of (moment_of (system_time_nanos time / 1000000000))
 system_step (Err error) = Failed

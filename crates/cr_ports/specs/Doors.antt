@@ -31,14 +31,14 @@ gives (next.Conn source sink clock) = true
 gives next.Done = false
 gives next.Failed = false
 
--- How many connections are left, before and behind an answer: a connection is one of them, and `Done`
--- comes exactly where none is left.
+-- How many connections are left before and after an answer: a connection given is one of them, and `Done` means that
+-- none is left.
 abbrev pub LeftAfter : {I O C : Type 0} → NextConnection I O C → ℕ → ℕ → Type 0
 LeftAfter (next.Conn source sink clock) before now = before ≡ now + 1
 LeftAfter next.Done before now = (before ≡ 0) × (now ≡ 0)
 LeftAfter next.Failed before now = (0 < before) × (now ≡ before)
 
--- The count of faults, before and behind an answer: it rose where the door failed, and nowhere else.
+-- The fault counter before and after an answer: it rose if the door failed, and only then.
 abbrev pub FaultsAfterNext : {I O C : Type 0} → NextConnection I O C → ℕ → ℕ → Type 0
 FaultsAfterNext (next.Conn source sink clock) before now = now ≡ before
 FaultsAfterNext next.Done before now = now ≡ before

@@ -39,7 +39,7 @@ read_faults (reads.Got n) faults = faults
 read_faults reads.End faults = faults
 read_faults reads.Failed faults = counted faults
 
--- the same of a write
+-- the fault counter after a write
 abbrev pub write_faults : WriteStep → ℕ → ℕ
 write_faults (writes.Took n) faults = faults
 write_faults writes.Failed faults = counted faults

@@ -35,7 +35,7 @@ next_answer door =
     else if fails door.calls then answers.Failed
     else answers.Conn
 
--- what an answer gave, and then what is still to come
+-- the connection that an answer gave, if any, and then those still to come
 abbrev pub and_coming : {I O C : Type 0} → NextConnection I O C → List (I × O × C) → List (I × O × C)
 and_coming (next.Conn source sink clock) coming = (source, sink, clock) ∷ coming
 and_coming next.Done coming = coming

@@ -17,16 +17,16 @@ use Rattle.cr_ports.specs.declared.keeper.KeeperError.TheVariants.{Failed}
 abbrev pub with_rows : (List ℕ → List Row) → List ℕ → List Row → List ℕ → List Row
 with_rows files path rows other = cond (bytes_eq path other) rows (files other)
 
--- What stands at a path once a keeper of these rows was shut there, where it was told before: they, or, of keepers that
--- tell what a stop leaves, they and then whole one group that was tried.
+-- The rows at a path once a keeper of these rows was shut there, if they were told before: its rows; or, of a keeper
+-- that tells what a stop leaves, its rows and one whole group that was tried.
 abbrev pub StandsAfter : Bool → List Row → List (List Row) → Option (List Row) → Option (List Row) → Type 0
 StandsAfter tells_stops kept tried None there = ⊤
 StandsAfter tells_stops kept tried (Some before) there =
     (there ≡ Some kept)
     ⊎ (IsTrue tells_stops × ((group : List Row) × IsAmong tried group × (there ≡ Some (kept ++ group))))
 
--- At each path stands what stood there, once a keeper was to be opened at one of them. Where that failed, of keepers
--- that tell what a stop leaves, a file may have been left half made there, where there were no rows.
+-- Each path keeps its rows when a keeper is opened at one of them. If that failed, of keepers that tell what a stop
+-- leaves, a file may be left half made there, if there were no rows.
 abbrev pub StaysOpened : {K : Type 0} → Bool → List ℕ → Result K KeeperError → (List ℕ → Option (List Row))
     → (List ℕ → Option (List Row)) → Type 0
 StaysOpened tells_stops path result old new =

@@ -16,22 +16,22 @@ pub record LeavesOnly {D : Type 0} (moment : D → ℕ) (left_since : D → ℕ 
   -- for a run that began earlier
   pub before : (t : ℕ) (image : List ℕ) → t ≤ moment old → left_since new t image → left_since old t image ⊎ P image
 
--- what was left opens to these rows, or to them followed whole by one of these groups
+-- the bytes open to these rows, or to these and one of these groups, whole
 abbrev pub OpensTo : (List ℕ → List Row → Type 0) → List Row → List (List Row) → List ℕ → Type 0
 OpensTo opens rows tried image =
     opens image rows ⊎ ((group : List Row) × IsAmong tried group × opens image (rows ++ group))
 
--- the same where the rows are told
+-- OpensTo if the rows are told; nothing is said if they aren't
 abbrev pub OpensToTold : (List ℕ → List Row → Type 0) → Option (List Row) → List (List Row) → List ℕ → Type 0
 OpensToTold opens None tried image = ⊤
 OpensToTold opens (Some rows) tried image = OpensTo opens rows tried image
 
--- What may be found behind the rows once an append of this group was tried: nothing where it was kept; else nothing,
--- this group, or what might have been found before.
+-- What may be found after the rows once an append of this group was tried: nothing if it was kept; else nothing, this
+-- group, or what might have been found before.
 abbrev pub TriedAfter : {T E : Type 0} → Result T E → List (List Row) → List Row → List (List Row) → Type 0
 TriedAfter (Ok done) old group new = new ≡ []
 TriedAfter (Err error) old group new = (new ≡ []) ⊎ ((new ≡ group ∷ []) ⊎ (new ≡ old))
 
--- nothing is asked of a keeper that tells nothing of stops
+-- nothing is required of a keeper that tells nothing of stops
 pub untold : {A : Type 0} → IsTrue false → A
 untold told = absurd (cc)

@@ -6,13 +6,13 @@ use Rattle.cr_ports.specs.declared.source.ReadStep.TheVariants as reads
 use Rattle.cr_ports.specs.declared.sink.WriteStep.{WriteStep}
 use Rattle.cr_ports.specs.declared.sink.WriteStep.TheVariants as writes
 
--- these bytes, and then what is left, where that is told
+-- these bytes, and then what is left, if that is told
 abbrev pub and_left : List ℕ → Option (List ℕ) → Option (List ℕ)
 and_left piece None = None
 and_left piece (Some rest) = Some (piece ++ rest)
 
--- what a sink took: the bytes, in order; how many answers were begun, as far as 64 bits count; and how many of the
--- bytes stood there when the last of these was
+-- what a sink took: the bytes, in order; how many answers were begun, up to 2^64 - 1; and how many bytes had been
+-- taken when the last of these was begun
 pub record Taken : Type 0 where
   pub bytes : List ℕ
   pub begun : ℕ
@@ -22,12 +22,12 @@ pub record Taken : Type 0 where
 abbrev pub untaken : Taken
 untaken = record { bytes = []; begun = 0; begun_at = 0 }
 
--- what was taken, where that is told, and then these bytes
+-- what was taken, if that is told, and then these bytes
 abbrev pub taken_and : Option Taken → List ℕ → Option Taken
 taken_and None piece = None
 taken_and (Some t) piece = Some (record { bytes = t.bytes ++ piece; begun = t.begun; begun_at = t.begun_at })
 
--- what was taken, where that is told, and then an answer was begun
+-- what was taken, if that is told, with one more answer begun
 abbrev pub and_begun : Option Taken → Option Taken
 and_begun None = None
 and_begun (Some t) = Some (record { bytes = t.bytes; begun = counted t.begun; begun_at = length t.bytes })

@@ -18,7 +18,7 @@ pub record Writes (bytes : List ℕ) (s s' : Outlet) : Type 0 where
   pub took : s'.taken ≡ taken_and s.taken bytes
   pub steady : s'.faults ≡ s.faults
 
--- Behind a part of these bytes the write failed, and nothing was written any more; no answer was begun.
+-- After a part of these bytes the write failed, and nothing more was written; no answer was begun.
 pub record BreaksOff (bytes : List ℕ) (s s' : Outlet) : Type 0 where
   pub part : List ℕ
   pub missing : List ℕ
@@ -30,8 +30,7 @@ pub record BreaksOff (bytes : List ℕ) (s s' : Outlet) : Type 0 where
 
 -- ---- answers, each of which is begun
 
--- what was taken, where that is told, and then these answers, one after another: each was begun, and then came its
--- bytes
+-- what was taken, if that is told, and then these answers, one after another, each begun before its bytes
 abbrev pub and_answers : Option Taken → List (List ℕ) → Option Taken
 and_answers t [] = t
 and_answers t (text ∷ texts) = and_answers (taken_and (and_begun t) text) texts
@@ -41,8 +40,8 @@ pub record WritesAnswers (texts : List (List ℕ)) (s s' : Outlet) : Type 0 wher
   pub took : s'.taken ≡ and_answers s.taken texts
   pub steady : s'.faults ≡ s.faults
 
--- The answers before were written whole; then this one was begun, once and before its first byte; behind a part of it
--- the write failed, and nothing was written any more.
+-- The answers before were written whole. Then this one was begun, once and before its first byte; after a part of it
+-- the write failed, and nothing more was written.
 pub record AnswerBreaksOff (before : List (List ℕ)) (text : List ℕ) (s s' : Outlet) : Type 0 where
   pub part : List ℕ
   pub missing : List ℕ

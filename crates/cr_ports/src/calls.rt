@@ -7,7 +7,9 @@ use std::marker::Model;
 
 /// The calls that were made of one kind, numbered from 0, and the numbers of those that fail.
 ///
-/// Contracts see the numbers, and how many calls were made.
+/// # Model
+///
+/// The numbers, and how many calls were made.
 #[derive(Drop)]
 pub struct Calls {
     failing: Vec<u64>,
@@ -23,6 +25,7 @@ impl Model for Calls {
 }
 
 impl Calls {
+    /// Creates a list of the calls that fail, none of which is made yet.
     pub(crate) fn new(failing: Vec<u64>) -> Self
         ensures failing { result.failing ≡ failing.items }
         ensures made { result.made ≡ 0 }
@@ -30,7 +33,11 @@ impl Calls {
         Calls { failing, made: 0 }
     }
 
-    /// The same lists and the same count.
+    /// Copies the lists and the count.
+    ///
+    /// # Errors
+    ///
+    /// If memory runs out.
     pub(crate) fn copy(&self) -> Result<Self, AllocError>
         ensures { IfOk result (λ copy. copy ≡ self.now) }
     {
@@ -41,14 +48,14 @@ impl Calls {
         })
     }
 
-    /// The number of the next call.
+    /// Returns the number of the next call.
     pub(crate) fn number(&self) -> u64
         ensures { result ≡ self.now.made }
     {
         self.made
     }
 
-    /// Counts a call. Answers whether it is listed as one that fails.
+    /// Counts a call, and returns whether it is listed as one that fails.
     pub(crate) fn begin(&mut self) -> bool
         ensures listed { result ≡ fails self.old }
         ensures advances { Advances self.old self.new }

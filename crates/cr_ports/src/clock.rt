@@ -9,25 +9,32 @@ use cr_base::Moment;
 /// What a clock gave, asked once.
 #[derive(Clone, Copy, PartialEq, Eq)]
 pub enum ClockStep {
-    /// This moment.
+    /// The time at which it was read.
     Now(Moment),
-    /// No moment: a fault, which was counted.
+    /// No time: a fault, which was counted.
     Failed,
 }
 
-/// Tells the time. What it tells need not rise: a clock that is set back is no fault.
+/// Tells the time. Times need not rise: a clock that is set back is no fault.
 pub trait Clock {
-    /// The moments that it has still to give, in order, where the clock tells them.
+    /// The times that it has still to give, in order, if the clock tells them.
     ghost coming: { Self → Option (List ℕ) };
 
     /// How often it has failed.
     ghost faults: { Self → ℕ };
 
-    /// The moment that it is.
+    /// Reads the time.
     ///
-    /// After `Failed` the moments that are to come are as before. The count of faults rises where it fails, unless it
-    /// stands at its last value, and nowhere else. Takes no memory. In memory it costs a look at each call that is
-    /// listed as one that fails; an adapter's asks its system, and waits for nothing else.
+    /// After `Failed` the times to come are as before.
+    ///
+    /// # Errors
+    ///
+    /// `Failed`: the fault counter rose. With every other answer it is unchanged.
+    ///
+    /// # Cost
+    ///
+    /// Takes no memory. In memory a look at each call that is listed as one that fails; an adapter asks its system,
+    /// and waits for nothing else.
     fn now(&mut self) -> ClockStep
         // What was given, and then what is to come, is what was to come.
         ensures moments { coming self.old ≡ and_left (moment_given result) (coming self.new) }

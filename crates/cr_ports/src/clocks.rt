@@ -11,7 +11,7 @@ use cr_base::Moment;
 use std::alloc::AllocError;
 use std::marker::Model;
 
-/// This moment, which is within its range.
+/// Returns this time as a clock's answer; it is within the range of a `Moment`.
 fn step_at(moment: Moment) -> ClockStep
     ensures step { result ≡ ClockStep.Now moment }
     ensures range { IsGiven result }
@@ -21,9 +21,11 @@ fn step_at(moment: Moment) -> ClockStep
     ClockStep::Now(moment)
 }
 
-/// Gives its moments in order, and fails exactly at the calls that are listed and where none is left.
+/// Gives its times in order, and fails exactly at the listed calls and if none is left.
 ///
-/// Contracts see the moments that it has still to give, the calls and the count of faults.
+/// # Model
+///
+/// The times that it has still to give, the calls and the fault counter.
 pub struct MemClock {
     moments: Vec<Moment>,
     // How many of them were given.
@@ -56,10 +58,9 @@ impl Model for MemClock {
 }
 
 impl MemClock {
-    /// A clock that gives `moments`, with no call made and no fault counted. They need not rise.
+    /// Creates a clock that gives `moments`, with no call made and no fault counted. They need not rise.
     ///
-    /// The calls numbered in `failing` fail, counted from 0, and give no moment; so do all past the last of the
-    /// moments.
+    /// The calls numbered in `failing` fail, counted from 0, and give no time; so do all past the last of the times.
     pub fn new(moments: Vec<Moment>, failing: Vec<u64>) -> Self
         ensures coming { result.coming ≡ moments.items }
         ensures calls { result.calls ≡ record { failing = failing.items; made = 0 } }
@@ -73,7 +74,11 @@ impl MemClock {
         }
     }
 
-    /// The same moments, lists and counts.
+    /// Copies the times, lists and counts.
+    ///
+    /// # Errors
+    ///
+    /// If memory runs out.
     pub(crate) fn copy(&self) -> Result<Self, AllocError>
         ensures { IfOk result (λ copy. copy ≡ self.now) }
     {
@@ -87,21 +92,21 @@ impl MemClock {
         })
     }
 
-    /// The moments that it has still to give.
+    /// Returns the times that it has still to give.
     pub fn coming(&self) -> &[Moment]
         ensures { result.now ≡ self.now.coming }
     {
         &self.moments[self.given..]
     }
 
-    /// How often it has failed, as far as 64 bits count.
+    /// Returns how often it has failed, up to 2^64 - 1.
     pub fn fault_count(&self) -> u64
         ensures { result ≡ self.now.faults }
     {
         self.faults
     }
 
-    /// Takes the next moment, where one is left.
+    /// Takes the next time, if one is left.
     fn take_next(&mut self) -> Option<Moment>
         ensures next { result ≡ slice_get self.old.coming 0 }
         ensures coming { self.new.coming ≡ drop 1 self.old.coming }
@@ -142,10 +147,12 @@ impl Clock for MemClock {
     }
 }
 
-/// Gives one moment for ever, and never fails: its count of faults is 0. What it gives has no end, so it doesn't tell
-/// it as a list; its own clause says it.
+/// Gives one time for ever, and never fails: its fault counter is 0. What it gives has no end, so it doesn't tell it
+/// as a list; its own clause says it.
 ///
-/// Contracts see the moment.
+/// # Model
+///
+/// The time.
 #[derive(Drop)]
 pub struct PlainClock {
     moment: Moment,
@@ -158,7 +165,7 @@ impl Model for PlainClock {
 }
 
 impl PlainClock {
-    /// A clock that stands at `moment`.
+    /// Creates a clock that is always at `moment`.
     pub fn new(moment: Moment) -> Self
         ensures { result ≡ moment }
     {

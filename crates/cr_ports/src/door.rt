@@ -25,8 +25,7 @@ pub enum DoorAnswer {
     Failed,
 }
 
-/// A connection that was given back: its source, its sink and its clock as they were given, and as they
-/// came back.
+/// A connection that was given back: its source, its sink and its clock as they were given, and as they came back.
 #[derive(Drop)]
 pub struct Served<I, O, C> {
     /// As it was given.
@@ -35,8 +34,7 @@ pub struct Served<I, O, C> {
     pub back: (I, O, C),
 }
 
-/// Gives the connections of its share, one at a time: each is given back before the next is asked
-/// for.
+/// Gives the connections of its share, one at a time: each is given back before the next is asked for.
 pub trait Door {
     /// What a connection reads from. It may go to another thread.
     type In: Source + Send;
@@ -58,14 +56,20 @@ pub trait Door {
     /// How often it has failed.
     ghost faults: { Self → ℕ };
 
-    /// Its last answer, and the connections that were given back, where it tells them.
+    /// Its last answer, and the connections that were given back, if the door tells them.
     ghost log: { Self → Option (DoorLog Self.In Self.Out Self.Clock) };
 
-    /// The next connection, which is out until it is given back.
+    /// Gives the next connection, which is out until it is given back.
     ///
-    /// `Done` comes exactly where none is left to give, and changes nothing else. After `Failed` as
-    /// many are left as before, and it comes only where the count of faults rose, or stands at its
-    /// last value. In memory it costs a move of the connection; an adapter's may wait for one to come.
+    /// `Done` if and only if none is left to give; it changes nothing else.
+    ///
+    /// # Errors
+    ///
+    /// `Failed`: the fault counter rose, and as many connections are left as before.
+    ///
+    /// # Cost
+    ///
+    /// In memory a move of the connection; an adapter may wait for one to come.
     fn next(&mut self) -> NextConnection<Self::In, Self::Out, Self::Clock>
         requires { IsFalse (is_out self.old) }
         ensures left { LeftAfter result (left self.old) (left self.new) }
@@ -73,8 +77,11 @@ pub trait Door {
         ensures faults { FaultsAfterNext result (faults self.old) (faults self.new) }
         ensures log { log self.new ≡ and_answer (log self.old) result };
 
-    /// Takes the connection that is out back. Takes no memory; an adapter's may wait for the
-    /// connection's end.
+    /// Takes back the connection that is out.
+    ///
+    /// # Cost
+    ///
+    /// Takes no memory. An adapter may wait for the connection's end.
     fn give_back(&mut self, source: Self::In, sink: Self::Out, clock: Self::Clock)
         requires { IsTrue (is_out self.old) }
         ensures left { left self.new ≡ left self.old }

@@ -17,7 +17,9 @@ type Parts = (MemSource, MemSink, MemClock);
 
 /// A connection that is still to be given, and a copy of it, which stays with the door.
 ///
-/// Contracts see the connection.
+/// # Model
+///
+/// The connection.
 #[derive(Drop)]
 pub(crate) struct Planned {
     live: Parts,
@@ -37,7 +39,11 @@ impl Model for Planned {
 }
 
 impl Planned {
-    /// This connection, and a copy of it.
+    /// Copies this connection, and keeps it with its copy.
+    ///
+    /// # Errors
+    ///
+    /// If memory runs out.
     pub(crate) fn new(
         alloc: Global,
         source: MemSource,
@@ -53,7 +59,7 @@ impl Planned {
         })
     }
 
-    /// The connection, and the copy of it.
+    /// Takes the connection and its copy apart.
     fn into_parts(self) -> (Parts, Parts)
         ensures live { result.0 ≡ self }
         ensures kept { result.1 ≡ self }
@@ -62,10 +68,11 @@ impl Planned {
     }
 }
 
-/// Gives its connections in order, and fails exactly at the calls that are listed.
+/// Gives its connections in order, and fails exactly at the listed calls.
 ///
-/// Contracts see the connections that are still to come, what it did, the calls and the count of
-/// faults.
+/// # Model
+///
+/// The connections that are still to come, what it did, the calls and the fault counter.
 pub struct MemDoor {
     coming: VecDeque<Planned>,
     out: Option<Parts>,
@@ -109,8 +116,12 @@ impl Model for MemDoor {
 }
 
 impl MemDoor {
-    /// A door of these connections, which wasn't asked yet. Its calls numbered in `failing` fail,
+    /// Creates a door of these connections, of which none was asked for yet. Its calls numbered in `failing` fail,
     /// counted from 0; those that find no connection left aren't numbered.
+    ///
+    /// # Errors
+    ///
+    /// If memory runs out.
     pub(crate) fn new(
         alloc: Global,
         coming: VecDeque<Planned>,
@@ -132,21 +143,21 @@ impl MemDoor {
         })
     }
 
-    /// Its last answer, if it was asked.
+    /// Returns its last answer, if a connection was asked for.
     pub fn last(&self) -> Option<DoorAnswer>
         ensures { result ≡ self.now.log.last }
     {
         self.last
     }
 
-    /// The connections that were given back, in order.
+    /// Returns the connections that were given back, in order.
     pub fn served(&self) -> &[Served<MemSource, MemSink, MemClock>]
         ensures { result.now ≡ self.now.log.served }
     {
         &self.served
     }
 
-    /// How often it has failed.
+    /// Returns how often it has failed, up to 2^64 - 1.
     pub(crate) fn fault_count(&self) -> u64
         ensures { result ≡ self.now.faults }
     {

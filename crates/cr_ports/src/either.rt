@@ -5,8 +5,8 @@ ghost use Rattle.cr_ports.specs.Either.{either_rows_alike, either_told};
 use crate::keeper::{Keeper, KeeperError};
 use cr_base::Row;
 
-/// A keeper of one of two kinds, which tells what the one that it is tells. What a stop of the machine left opens as
-/// either kind opens it.
+/// A keeper of one of two kinds, which tells what the one that it is tells. What a stop left opens to the rows to
+/// which either kind opens it; a kind that tells no stops opens nothing.
 #[derive(Drop)]
 pub enum EitherKeeper<K: Keeper, L: Keeper> {
     /// One of the first kind.

@@ -10,9 +10,11 @@ use std::marker::Model;
 /// What the path of a journal ends in.
 const JOURNALS: &str = ".cj";
 
-/// Opens by one shelf where the path ends in `.cj`, and by the other where it doesn't.
+/// Opens paths that end in `.cj` by one shelf, and all others by the other.
 ///
-/// Contracts see both.
+/// # Model
+///
+/// Both shelves.
 #[derive(Drop)]
 pub struct EitherShelf<S: Shelf, T: Shelf> {
     journals: S,
@@ -27,7 +29,7 @@ impl<S: Shelf, T: Shelf> Model for EitherShelf<S, T> {
     ghost view = { λ s. record { journals = s.journals; others = s.others } };
 }
 
-/// Whether a path is that of a journal.
+/// Returns whether a path is that of a journal: it ends in `.cj`.
 #[tactic(auto, using(std::proofs::lemmas::Str::Pattern::ends_text))]
 pub fn is_journal(path: &str) -> bool
     ensures { result ≡ is_journal path.now }
@@ -36,21 +38,21 @@ pub fn is_journal(path: &str) -> bool
 }
 
 impl<S: Shelf, T: Shelf> EitherShelf<S, T> {
-    /// A shelf that opens journals by the first, and all else by the second.
+    /// Creates a shelf that opens journals by the first, and all else by the second.
     pub fn new(journals: S, others: T) -> Self
         ensures { result ≡ record { journals = journals; others = others } }
     {
         EitherShelf { journals, others }
     }
 
-    /// The shelf of journals.
+    /// Lends the shelf of journals.
     pub fn journals(&self) -> &S
         ensures { result.now ≡ self.now.journals }
     {
         &self.journals
     }
 
-    /// The shelf of all else.
+    /// Lends the shelf of all else.
     pub fn others(&self) -> &T
         ensures { result.now ≡ self.now.others }
     {
@@ -84,7 +86,7 @@ impl<S: Shelf, T: Shelf> Shelf for EitherShelf<S, T> {
         Ok(EitherKeeper::Second(keeper))
     }
 
-    /// By the shelf that opened it.
+    /// Takes a keeper back by the shelf that opened it.
     fn shut(&mut self, path: &str, keeper: Self::Keeper) {
         match keeper {
             EitherKeeper::First(keeper) => self.journals.shut(path, keeper),

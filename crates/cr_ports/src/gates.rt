@@ -27,21 +27,26 @@ pub trait Gates {
     /// How often a call of the gates, or of a door that was shut, has failed.
     ghost faults: { Self → ℕ };
 
-    /// What each of the doors that were shut last did, in their order, where the gates tell it.
+    /// What each of the doors that were shut last did, in their order, if the gates tell it.
     ghost logs: { Self → Option (List (DoorLog Self.Door.In Self.Door.Out Self.Door.Clock)) };
 
-    /// At which addresses doors were asked for, in order, where the gates tell it.
+    /// The addresses at which doors were asked for, in order, if the gates tell them.
     ghost asked: { Self → Option (List (List ℕ)) };
 
-    /// Doors at the address, one a worker, which give so many connections together.
+    /// Opens doors at the address, one a worker, which give so many connections together.
     ///
-    /// Doors are counted from 0. Each gives the quotient of `connections` by `workers`, and the first of them, as many
-    /// as the remainder tells, one more. Each door is new: nothing is out, and no fault was counted.
+    /// Doors are counted from 0. Each gives the quotient of `connections` by `workers`, and the first of them, as
+    /// many as the remainder tells, one more. Each door is new: no connection is out, and no fault was counted. If no
+    /// doors were opened, the gates needn't tell that they were asked for at this address.
     ///
-    /// `Failed` comes only where the count of faults rose, or stands at its last value, and
-    /// `OutOfMemory` only where it is as it was. In memory it costs a look at each connection and a copy of the
-    /// address; an adapter's may wait for its system. Where no doors were opened, the gates needn't tell that they
-    /// were asked for at this address.
+    /// # Errors
+    ///
+    /// - `Failed`: the fault counter rose.
+    /// - `OutOfMemory`: memory ran out. The fault counter is unchanged.
+    ///
+    /// # Cost
+    ///
+    /// In memory a look at each connection and a copy of the address; an adapter may wait for its system.
     fn open(
         &mut self,
         alloc: Global,
@@ -59,9 +64,9 @@ pub trait Gates {
         ensures asked { AskedAfterOpen result addr.now (asked self.old) (asked self.new) }
         ensures faults { FaultsAfterOpen result (faults self.old) (faults self.new) };
 
-    /// Takes the doors back, none of which has a connection out. Where the gates tell what doors
-    /// did, they then tell it of these. The count of faults rises by at least that of all these doors
-    /// together. Takes no memory.
+    /// Takes back the doors, none of which has a connection out. Gates that tell what doors did then tell it of
+    /// these. The fault counter rises by at least those of all these doors together, up to its maximum. Takes no
+    /// memory.
     fn shut(&mut self, doors: Vec<Self::Door>)
         requires { All (λ door. IsFalse (Self.Door.is_out door)) doors.items }
         ensures same { asked self.new ≡ asked self.old }

@@ -20,11 +20,12 @@ use std::collections::VecDeque;
 use std::marker::Model;
 use std::mem;
 
-/// Gives connections in memory to its doors. An opening, and a door's call, fails exactly where it is
-/// listed.
+/// Gives connections in memory to its doors. An opening, and a door's call, fails exactly if it is listed.
 ///
-/// Contracts see the connections that no door took yet, the lists, the addresses that doors were asked for at, what
-/// the doors that were shut last did, and the count of faults.
+/// # Model
+///
+/// The connections that no door took yet, the lists, the addresses at which doors were asked for, what the doors that
+/// were shut last did, and the fault counter.
 pub struct MemGates {
     coming: VecDeque<Planned>,
     opens: Calls,
@@ -65,11 +66,11 @@ impl Model for MemGates {
 }
 
 impl MemGates {
-    /// Gates with no connection, no opening made and no fault counted.
+    /// Creates gates with no connection, no opening made and no fault counted.
     ///
-    /// The openings numbered in `failing_opens` fail. Of each opening's door number i the calls
-    /// numbered in `failing[i]` fail, none past the list's end; calls that find no connection left
-    /// aren't numbered. All count from 0.
+    /// The openings numbered in `failing_opens` fail. Of each opening's door number i the calls numbered in
+    /// `failing[i]` fail, none past the list's end; calls that find no connection left aren't numbered. All count
+    /// from 0.
     pub fn new(alloc: Global, failing_opens: Vec<u64>, failing: Vec<Vec<u64>>) -> Self
         ensures coming { result.coming ≡ [] }
         ensures opens { (result.opens.failing ≡ failing_opens.items) × (result.opens.made ≡ 0) }
@@ -88,8 +89,11 @@ impl MemGates {
         }
     }
 
-    /// Puts a connection behind those that no door took yet, with a copy of it, which stays with its
-    /// door. After an error, which is want of memory, all is as before.
+    /// Adds a connection after those that no door took yet, with a copy of it, which stays with its door.
+    ///
+    /// # Errors
+    ///
+    /// If memory runs out. Then all is as before.
     pub fn add(
         &mut self,
         alloc: Global,
@@ -110,14 +114,14 @@ impl MemGates {
         Ok(())
     }
 
-    /// The addresses that doors were asked for at, in order.
+    /// Returns the addresses at which doors were asked for, in order.
     pub fn asked(&self) -> &[String]
         ensures { map string_bytes result.now ≡ self.now.asked }
     {
         &self.asked
     }
 
-    /// The doors that were shut last, in their order.
+    /// Lends the doors that were shut last, in their order.
     pub fn doors(&self) -> &[MemDoor]
         ensures { result.now ≡ self.now.shut }
     {
@@ -125,7 +129,11 @@ impl MemGates {
     }
 }
 
-/// Puts an address behind those that were asked for. After want of memory they are as before.
+/// Notes an address after those at which doors were asked for.
+///
+/// # Errors
+///
+/// If memory runs out. Then the list is as before.
 fn note(alloc: Global, asked: &mut Vec<String>, addr: &str) -> Result<(), AllocError>
     ensures noted { OnOk result (map string_bytes asked.new.items ≡ map string_bytes asked.old.items ++ addr.now ∷ []) }
     ensures refused { OnErr result (asked.new.items ≡ asked.old.items) }
@@ -135,7 +143,11 @@ fn note(alloc: Global, asked: &mut Vec<String>, addr: &str) -> Result<(), AllocE
     Ok(())
 }
 
-/// A connection that sends nothing and takes nothing, and is told no moment.
+/// Creates a connection that sends nothing and takes nothing, and whose clock gives no time.
+///
+/// # Errors
+///
+/// If memory runs out.
 fn silent_connection(alloc: Global) -> Result<Planned, AllocError>
     ensures { IfOk result (λ planned. planned ≡ silent) }
 {
@@ -145,7 +157,11 @@ fn silent_connection(alloc: Global) -> Result<Planned, AllocError>
     Planned::new(alloc, source, sink, clock)
 }
 
-/// Puts silent connections behind those that come, up to so many.
+/// Adds silent connections to those to come until there are at least so many.
+///
+/// # Errors
+///
+/// If memory runs out. Some may have been added.
 fn fill(alloc: Global, coming: &mut VecDeque<Planned>, connections: usize) -> Result<(), AllocError>
     ensures { OnOk result (coming.new.items ≡ filled connections coming.old.items) }
 {
@@ -155,7 +171,11 @@ fn fill(alloc: Global, coming: &mut VecDeque<Planned>, connections: usize) -> Re
     Ok(())
 }
 
-/// The first connections of those that come.
+/// Takes the first `share` connections of those to come.
+///
+/// # Errors
+///
+/// If memory runs out.
 fn take_share(coming: &mut VecDeque<Planned>, share: u32) -> Result<VecDeque<Planned>, AllocError>
     requires { share ≤ length coming.old.items }
     ensures share { IfOk result (λ first. first.items ≡ take share coming.old.items) }
@@ -165,7 +185,11 @@ fn take_share(coming: &mut VecDeque<Planned>, share: u32) -> Result<VecDeque<Pla
     Ok(mem::replace(coming, rest))
 }
 
-/// The list of door number `i`, which is empty where none is listed.
+/// Copies the list of door number `i`; it is empty if there is none.
+///
+/// # Errors
+///
+/// If memory runs out.
 fn failing_at(alloc: Global, failing: &[Vec<u64>], i: u32) -> Result<Vec<u64>, AllocError>
     ensures { IfOk result (λ list. record { failing = list.items; made = 0 }
         ≡ listed_at (slice_get (map (λ l. l.items) failing.now) i)) }
@@ -176,7 +200,11 @@ fn failing_at(alloc: Global, failing: &[Vec<u64>], i: u32) -> Result<Vec<u64>, A
     }
 }
 
-/// Doors of so many connections, of which there are as many, one a worker.
+/// Makes the doors, one a worker, with so many connections together; as many are to come.
+///
+/// # Errors
+///
+/// If memory runs out.
 fn make_doors(
     alloc: Global,
     coming: &mut VecDeque<Planned>,
@@ -203,7 +231,7 @@ fn make_doors(
     Ok(doors)
 }
 
-/// The faults counted before, and those of the doors, up to the count's last value.
+/// Adds the faults of the doors to those counted before, up to 2^64 - 1.
 fn faults_with(before: u64, doors: &[MemDoor]) -> u64
     ensures { result ≡ min (before + sum_by (λ door. door.faults) doors.now) (2 ^ 64 - 1) }
 {
@@ -223,10 +251,14 @@ impl Gates for MemGates {
 
     ghost asked = { λ g. Some g.asked };
 
-    /// Gives the connections out in their order, each door's share behind that of the doors before it,
-    /// and silent ones, which send and take nothing, where there are fewer than asked for. After want
-    /// of memory it may have fewer left. The address is noted and not looked at; an opening that is listed fails
-    /// also where there is no memory to note it.
+    /// Gives the connections out in their order, each door's share after that of the doors before it. If there are
+    /// fewer than asked for, silent ones follow, which send and take nothing. The address is noted, and isn't looked
+    /// at.
+    ///
+    /// # Errors
+    ///
+    /// - `Failed` if and only if this opening is listed, even if there is no memory to note the address.
+    /// - `OutOfMemory`: fewer connections may be left.
     fn open(&mut self, alloc: Global, addr: &str, workers: u32, connections: u32) -> Opened<MemDoor>
         requires { 0 < workers }
         ensures shares { OnDoors result (λ doors. map (λ door. length door.coming) doors

@@ -18,7 +18,7 @@ pub enum KeeperError {
 
 /// Keeps a list of rows that only grows. A call that is refused changes no row.
 pub trait Keeper {
-    /// The rows, where the keeper tells them.
+    /// The rows, if the keeper tells them.
     ghost rows: { Self → Option (List Row) };
 
     /// How often a call has failed.
@@ -27,40 +27,48 @@ pub trait Keeper {
     /// Which it is of several kinds that one type may have, by the choices that lead to it. No call changes it.
     ghost kind: { Self → List Bool };
 
-    /// Whether it tells what a stop of the machine may leave. The four further below speak of a keeper that does.
+    /// The keeper tells what a stop may leave. `tried`, `moment`, `left_since` and `opens` speak of a keeper that
+    /// does.
     ghost tells_stops: { Self → Bool };
 
-    /// Keepers of one kind all do, or none does.
+    /// Keepers of one kind agree in whether they tell what a stop may leave.
     ghost tells_alike: { (keeper other : Self) → kind keeper ≡ kind other
         → tells_stops keeper ≡ tells_stops other };
 
-    /// And all of them tell their rows, or none does.
+    /// Keepers of one kind agree in whether they tell their rows.
     ghost rows_alike: { (keeper other : Self) → kind keeper ≡ kind other
         → is_some (rows keeper) ≡ is_some (rows other) };
 
-    /// A keeper that does tells its rows as well.
+    /// A keeper that tells what a stop may leave tells its rows as well.
     ghost rows_told: { (keeper : Self) → IsTrue (tells_stops keeper) → IsTrue (is_some (rows keeper)) };
 
-    /// The groups of which after a stop one may be found, whole, behind the rows: their appends failed since the last
-    /// that was kept.
+    /// The groups of which after a stop one may be found, whole, after the rows: their appends failed since the last
+    /// success.
     ghost tried: { Self → List (List Row) };
 
-    /// The moment, as a number that doesn't fall.
+    /// The keeper's own time, as a number that doesn't fall.
     ghost moment: { Self → ℕ };
 
-    /// What a stop at some moment from that one on might have left, during a call or between two.
+    /// The bytes that a stop may have left at some moment from that one on, during a call or between two.
     ghost left_since: { Self → ℕ → List ℕ → Type 0 };
 
-    /// The rows to which it opens what a stop left.
+    /// The rows to which it opens the bytes that a stop left.
     ghost opens: { List ℕ → List Row → Type 0 };
 
-    /// Keeps all of `added` behind the rows that are there, or none of them. What a stop at a moment of the call leaves
-    /// opens to the rows that were there, or to these and then whole one group: `added`, or one that was tried. Where
-    /// memory runs out, nothing was tried: a keeper that tells what a stop leaves is as it was.
+    /// Appends all of `added` to the rows, or none of it.
     ///
-    /// `Failed` comes only where the count of faults rose, or stands at its last value, and
-    /// `OutOfMemory` only where it is as it was. Costs at most a copy of each row of `added`; an
-    /// adapter's may wait for its store.
+    /// A stop at any moment of the call leaves bytes that open to the rows from before, or to these and one whole
+    /// group after them: `added`, or one that was tried.
+    ///
+    /// # Errors
+    ///
+    /// - `Failed`: the fault counter rose. The rows are as before.
+    /// - `OutOfMemory`: memory ran out. The rows and the fault counter are as before, and nothing was tried: a keeper
+    ///   that tells what a stop leaves is unchanged.
+    ///
+    /// # Cost
+    ///
+    /// At most a copy of each row of `added`; an adapter may wait for its store.
     fn append_all(&mut self, added: &[Row]) -> Result<(), KeeperError>
         ensures kept { OnOk result (rows self.new ≡ and_rows (rows self.old) added.now) }
         ensures refused { OnErr result (rows self.new ≡ rows self.old) }
@@ -73,12 +81,17 @@ pub trait Keeper {
         ensures untried { IsTrue (tells_stops self.old) → result ≡ Err KeeperError.OutOfMemory → self.new ≡ self.old }
         ensures cause { HasCause (faults self.old) (faults self.new) result };
 
-    /// How many rows are kept. What a stop leaves before the next call opens to the rows, or to these and then whole
-    /// one group that was tried.
+    /// Returns how many rows are kept. A stop before the next call leaves bytes that open to the rows, or to these
+    /// and one whole group that was tried.
     ///
-    /// `Failed` comes only where the count of faults rose, or stands at its last value, and
-    /// `OutOfMemory` only where it is as it was. Costs no look at a row; an adapter's may wait for
-    /// its store.
+    /// # Errors
+    ///
+    /// - `Failed`: the fault counter rose.
+    /// - `OutOfMemory`: memory ran out. The fault counter is unchanged.
+    ///
+    /// # Cost
+    ///
+    /// No look at a row; an adapter may wait for its store.
     fn len(&mut self) -> Result<u64, KeeperError>
         ensures told { IfOk result (λ n. IfSome (rows self.old) (λ rows. n ≡ length rows)) }
         ensures same { rows self.new ≡ rows self.old }
@@ -88,10 +101,16 @@ pub trait Keeper {
             → OpensToTold opens (rows self.old) (tried self.old) image }
         ensures cause { HasCause (faults self.old) (faults self.new) result };
 
-    /// A copy of row number `at`, from 0, which is below the number of rows.
+    /// Copies row number `at`, from 0; it is below the number of rows.
     ///
-    /// `Failed` comes only where the count of faults rose, or stands at its last value, and
-    /// `OutOfMemory` only where it is as it was. Costs a copy of that row alone.
+    /// # Errors
+    ///
+    /// - `Failed`: the fault counter rose.
+    /// - `OutOfMemory`: memory ran out. The fault counter is unchanged.
+    ///
+    /// # Cost
+    ///
+    /// A copy of that one row.
     fn row(&mut self, at: u64) -> Result<Row, KeeperError>
         requires { IfSome (rows self.old) (λ rows. at < length rows) }
         ensures told { IfOk result (λ row. IfSome (rows self.old) (λ rows. slice_get rows at ≡ Some row)) }

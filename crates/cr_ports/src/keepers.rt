@@ -12,9 +12,11 @@ use cr_base::Row;
 use std::alloc::{AllocError, Global};
 use std::marker::Model;
 
-/// Rows in memory. It fails exactly at the calls that are listed.
+/// Keeps rows in memory, and fails exactly at the listed calls.
 ///
-/// Contracts see the rows, the lists and the count of faults.
+/// # Model
+///
+/// The rows, the lists and the fault counter.
 #[derive(Drop)]
 pub struct MemKeeper {
     alloc: Global,
@@ -31,10 +33,10 @@ impl Model for MemKeeper {
 }
 
 impl MemKeeper {
-    /// A keeper of no rows, with no call made and no fault counted.
+    /// Creates a keeper of no rows, with no call made and no fault counted.
     ///
-    /// The appends numbered in `failing_appends` fail, and of the other calls, which are numbered
-    /// apart, those in `failing_reads`; both count from 0.
+    /// The appends numbered in `failing_appends` fail, and of the other calls, which are numbered apart, those in
+    /// `failing_reads`; both count from 0.
     pub fn new(alloc: Global, failing_appends: Vec<u64>, failing_reads: Vec<u64>) -> Self
         ensures rows { result.rows ≡ [] }
         ensures appends { (result.appends.failing ≡ failing_appends.items) × (result.appends.made ≡ 0) }
@@ -44,8 +46,7 @@ impl MemKeeper {
         MemKeeper::over(alloc, Vec::new(alloc), failing_appends, failing_reads)
     }
 
-    /// A keeper of these rows, with no call made and no fault counted, which fails as the lists
-    /// tell.
+    /// Creates a keeper of these rows, with no call made and no fault counted, which fails as the lists say.
     pub(crate) fn over(
         alloc: Global,
         rows: Vec<Row>,
@@ -66,7 +67,7 @@ impl MemKeeper {
         }
     }
 
-    /// Its rows and its count of faults.
+    /// Returns its rows and its fault counter.
     pub(crate) fn into_parts(self) -> (Vec<Row>, u64)
         ensures rows { result.0.items ≡ self.rows }
         ensures faults { result.1 ≡ self.faults }
@@ -74,7 +75,7 @@ impl MemKeeper {
         (self.rows, self.faults)
     }
 
-    /// Counts a call that isn't an append, and fails it where it is listed.
+    /// Counts a call that isn't an append, and fails it if it is listed.
     fn begin_read(&mut self) -> Result<(), KeeperError>
         ensures answer { result ≡ failed_or (fails self.old.reads) tt }
         ensures cause { HasCause self.old.faults self.new.faults result }
@@ -91,7 +92,11 @@ impl MemKeeper {
     }
 }
 
-/// Copies of `rows`.
+/// Copies `rows`.
+///
+/// # Errors
+///
+/// If memory runs out.
 pub(crate) fn copies_of(alloc: Global, rows: &[Row]) -> Result<Vec<Row>, AllocError>
     ensures { IfOk result (λ copies. copies.items ≡ rows.now) }
 {
@@ -102,7 +107,11 @@ pub(crate) fn copies_of(alloc: Global, rows: &[Row]) -> Result<Vec<Row>, AllocEr
     Ok(copies)
 }
 
-/// Puts copies of `added` behind the rows that are there, or changes nothing.
+/// Appends copies of `added` to the rows.
+///
+/// # Errors
+///
+/// If memory runs out. Then the rows are as before.
 fn add_copies(alloc: Global, rows: &mut Vec<Row>, added: &[Row]) -> Result<(), AllocError>
     ensures ok { OnOk result (rows.new.items ≡ rows.old.items ++ added.now) }
     ensures err { OnErr result (rows.new.items ≡ rows.old.items) }
@@ -112,8 +121,11 @@ fn add_copies(alloc: Global, rows: &mut Vec<Row>, added: &[Row]) -> Result<(), A
     Ok(())
 }
 
-/// Puts copies of `added` behind the rows that are there, or changes nothing. The one error is
-/// lack of memory.
+/// Appends copies of `added` to the rows.
+///
+/// # Errors
+///
+/// `OutOfMemory`, and no other. Then the rows are as before.
 fn keep_copies(alloc: Global, rows: &mut Vec<Row>, added: &[Row]) -> Result<(), KeeperError>
     ensures ok { OnOk result (rows.new.items ≡ rows.old.items ++ added.now) }
     ensures err { OnErr result (rows.new.items ≡ rows.old.items) }
@@ -125,7 +137,11 @@ fn keep_copies(alloc: Global, rows: &mut Vec<Row>, added: &[Row]) -> Result<(), 
     }
 }
 
-/// A copy of row number `at`. The one error is a lack of memory.
+/// Copies row number `at`.
+///
+/// # Errors
+///
+/// `OutOfMemory`, and no other.
 fn copy_at(rows: &[Row], at: u64) -> Result<Row, KeeperError>
     requires { at < length rows.now }
     ensures ok { IfOk result (λ row. slice_get rows.now at ≡ Some row) }
@@ -210,9 +226,11 @@ impl Keeper for MemKeeper {
     }
 }
 
-/// Rows in memory. No call fails but for lack of memory: its count of faults is 0.
+/// Keeps rows in memory. A call fails only if memory runs out: its fault counter is 0.
 ///
-/// Contracts see the rows.
+/// # Model
+///
+/// The rows.
 #[derive(Drop)]
 pub struct PlainKeeper {
     alloc: Global,
@@ -226,7 +244,7 @@ impl Model for PlainKeeper {
 }
 
 impl PlainKeeper {
-    /// A keeper of no rows.
+    /// Creates a keeper of no rows.
     pub fn new(alloc: Global) -> Self
         ensures { result ≡ [] }
     {

@@ -1,5 +1,5 @@
 //! The outside as traits: streams, keepers of rows and the shelves that open them, clocks, and gates that give
-//! connections; with implementations in memory, and adapters.
+//! connections. Implementations in memory, and adapters.
 //!
 //! Each has a model, which is optional: in memory it is the content, and an adapter over a real stream has none.
 //! Clauses on content hold where there is one. Each also has a fault counter. *The counter rose* means that it
@@ -9,55 +9,38 @@
 //!
 //! Of every implementation:
 //!
-//! - A call fails only if its counter rose, and otherwise leaves the counter; no counter falls. Lack of memory isn't
-//!   counted: `failed`, `cause`, `steady`, `count`.
-//! - A source gives the next bytes of what it has left, and loses none: `Source::read` (`bytes`, `size`, `end`,
-//!   `gives`).
-//! - A sink takes a prefix of each piece: `Sink::write` (`bytes`, `size`). Only `begin_answer` counts an answer, with
-//!   its place in the bytes: `Sink::begin_answer` (`begun`).
-//! - A keeper keeps all rows of a call, or none: `Keeper::append_all` (`kept`, `refused`).
-//! - No call changes a keeper's kind; keepers of one kind agree in whether they tell rows, and stops:
-//!   `Keeper::append_all` (`alike`), `len`, `row`; `tells_alike`, `rows_alike`.
+//! - A call fails only if its counter rose, and otherwise leaves it; no counter falls. Lack of memory isn't counted:
+//!   `failed`, `cause`, `steady`, `count`.
+//! - A source gives the next bytes of what it has left; a sink takes a prefix of each piece: `Source::read` (`bytes`,
+//!   `gives`), `Sink::write` (`bytes`, `size`). Only `begin_answer` counts an answer, with its place.
+//! - A keeper keeps all rows of a call, or none: `Keeper::append_all` (`kept`, `refused`). No call changes its kind,
+//!   which says whether it tells rows, and stops: `Keeper::append_all` (`alike`), `tells_alike`, `rows_alike`.
 //! - What a stop leaves at any moment of an append opens to the rows from before, or to these and one whole group. It
 //!   is the appended one, or one that failed since the last success: `Keeper::append_all` (`stops`, `tried`,
-//!   `between`), of keepers that tell stops (`tells_stops`).
-//! - If memory ran out, such a keeper tried nothing. One that is shut may leave a group that failed after its rows:
-//!   `append_all` (`untried`), `shut` (`kept`).
-//! - A shelf opens a keeper with the rows at the path and a counter of 0: `Shelf::open` (`found`, `fresh`). It says of
-//!   which paths its keepers tell stops: `Shelf::open` (`telling`).
-//! - Opening changes no rows. At a path whose keepers tell stops it may leave a file half made: `Shelf::open`
-//!   (`same`).
-//! - A keeper that is shut leaves its rows at its path, every other path unchanged, and its faults in the shelf's
-//!   counter: `Shelf::shut` (`kept`, `others`, `count`).
+//!   `between`), of keepers that tell stops (`tells_stops`). If memory ran out, nothing was tried: `append_all`
+//!   (`untried`).
+//! - A shelf opens a keeper with the rows at the path and a counter of 0, and says whether it tells stops:
+//!   `Shelf::open` (`found`, `fresh`, `telling`). Opening changes no rows, but may leave a file half made at such a
+//!   path: `Shelf::open` (`same`). A keeper that is shut leaves its rows there, perhaps with a group that failed, and
+//!   every other path unchanged: `Shelf::shut` (`kept`, `others`, `count`).
 //! - A clock gives the timestamps to come, in order; after a failure they stay: `Clock::now` (`moments`).
-//! - Gates open one door a worker, whose shares add up to all connections: `Gates::open` (`shares`), `law_shares`.
-//! - A door gives its share one at a time, says `Done` exactly when it has given it all, and loses none by a fault:
-//!   `Door::next` (`left`).
-//! - A door's log has its last answer, and each connection as given and as it came back, in order: `next`, `give_back`
-//!   (`log`).
-//! - Gates have the logs of the doors shut last, in order, all their faults, and the addresses asked for:
-//!   `Gates::shut` (`told`, `count`), `Gates::open` (`asked`).
+//! - Gates open one door a worker, whose shares add up to all connections: `Gates::open` (`shares`), `law_shares`. A
+//!   door gives its share one at a time, says `Done` exactly when it has given it all, and loses none by a fault:
+//!   `Door::next` (`left`). Logs say what came, in order: `next`, `give_back` (`log`); `Gates::shut` (`told`,
+//!   `count`).
 //!
 //! Of what is here:
 //!
-//! - `EitherShelf` opens by its first shelf exactly the paths that end in `.cj`, and by its second all others. Each
-//!   path has what that shelf has there, and a keeper goes back to it: `is_journal`, `EitherShelf::open` (`opened`,
-//!   `found`), `shut` (`kept`).
-//! - An observer changes nothing of keeper or shelf: `WatchedKeeper`, `WatchedShelf`.
-//! - Implementations in memory fail exactly at the listed calls: `MemSource::read`, `MemSink::write`, `MemClock::now`
-//!   (`step`); `MemKeeper::append_all`, `MemShelf::open`, `MemGates::open` (`failed`); `MemDoor::next` (`answer`). A
-//!   sink also fails if its room is used up, a clock past its last timestamp.
-//! - `MemGates` gives its connections in order, door after door: `open` (`coming`).
-//! - `PlainKeeper` fails only for lack of memory; `PlainClock` gives one timestamp for ever: `append_all` (`memory`),
-//!   `now` (`step`).
+//! - `EitherShelf` opens by its first shelf exactly the paths that end in `.cj`, and by its second all others:
+//!   `is_journal`, `EitherShelf::open` (`opened`, `found`), `shut` (`kept`). An observer changes nothing of keeper or
+//!   shelf: `WatchedKeeper`, `WatchedShelf`.
+//! - Implementations in memory fail exactly at the listed calls; a sink also if its room is used up, a clock past its
+//!   last timestamp.
 //! - An adapter over a reader gives its next bytes, and an end only if the reader is at its end: `ReadSource::read`
-//!   (`gives`, `ended`).
-//! - An adapter over a writer has added exactly what it says it took; if it failed, at most a prefix of the piece:
-//!   `WriteSink::write` (`written`).
-//! - Of std's time `SystemClock` takes the whole seconds, or fails: `system_step`.
-//! - `write_all` writes everything, or a prefix if the counter rose, and begins no answer: `write_all` (`whole`,
-//!   `failed`). `write_answer` does the same, and begins its answer once, before the first byte: `write_answer`
-//!   (`WritesAnswers`, `AnswerBreaksOff`).
+//!   (`gives`, `ended`). One over a writer has added exactly what it says it took, or failed after a prefix:
+//!   `WriteSink::write` (`written`). `SystemClock` takes the whole seconds, or fails: `system_step`.
+//! - `write_all` writes everything, or a prefix if the counter rose: `write_all` (`whole`, `failed`). `write_answer`
+//!   also begins its answer once, before the first byte: `write_answer` (`WritesAnswers`, `AnswerBreaksOff`).
 //!
 //! # Tested
 //!

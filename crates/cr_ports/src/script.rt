@@ -8,10 +8,11 @@ use crate::calls::Calls;
 use std::alloc::AllocError;
 use std::marker::Model;
 
-/// How many bytes each call of a stream in memory moves at most, which calls fail, and how many
-/// faults were counted.
+/// How many bytes each call of a stream in memory moves at most, which calls fail, and how many faults were counted.
 ///
-/// Contracts see the lengths, the calls and the count.
+/// # Model
+///
+/// The lengths, the calls and the fault counter.
 #[derive(Drop)]
 pub struct Script {
     pieces: Vec<usize>,
@@ -28,6 +29,7 @@ impl Model for Script {
 }
 
 impl Script {
+    /// Creates a script of these lengths and of the calls that fail, with no call made and no fault counted.
     pub(crate) fn new(pieces: Vec<usize>, failing: Vec<u64>) -> Self
         ensures pieces { result.pieces ≡ pieces.items }
         ensures failing { result.calls.failing ≡ failing.items }
@@ -41,7 +43,11 @@ impl Script {
         }
     }
 
-    /// The same lists and the same counts.
+    /// Copies the lists and the counts.
+    ///
+    /// # Errors
+    ///
+    /// If memory runs out.
     pub(crate) fn copy(&self) -> Result<Self, AllocError>
         ensures { IfOk result (λ copy. copy ≡ self.now) }
     {
@@ -54,7 +60,7 @@ impl Script {
         })
     }
 
-    /// How many bytes the next call moves of so many that are wanted.
+    /// Returns how many bytes the next call moves if so many are wanted.
     pub(crate) fn moved(&self, wanted: usize) -> usize
         ensures { result ≡ moved self.now wanted }
     {
@@ -64,7 +70,7 @@ impl Script {
         }
     }
 
-    /// Counts a call. Answers whether it is listed as one that fails.
+    /// Counts a call, and returns whether it is listed as one that fails.
     pub(crate) fn begin(&mut self) -> bool
         ensures listed { result ≡ fails self.old.calls }
         ensures advances { Advances self.old.calls self.new.calls }

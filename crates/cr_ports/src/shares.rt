@@ -2,8 +2,8 @@
 ghost use Rattle.std.specs.Prelude.{◌≡◌, ◌<◌, length, sum};
 ghost use Rattle.cr_ports.specs.Doors.{share_of, shares};
 
-/// How many of so many connections door number `i`, from 0, of `workers` gives: the quotient of the two,
-/// and one more for the first doors, as many as the remainder tells.
+/// Returns how many of so many connections door number `i`, from 0, of `workers` gives: the quotient of the two, and
+/// one more for the first doors, as many as the remainder tells.
 pub fn share(i: u32, workers: u32, connections: u32) -> u32
     requires { 0 < workers }
     ensures { result ≡ share_of i workers connections }
@@ -15,7 +15,7 @@ pub fn share(i: u32, workers: u32, connections: u32) -> u32
     even
 }
 
-/// The shares of all doors, one a worker, add up to the connections.
+/// Proves that the shares of all doors, one a worker, add up to the connections.
 pub fn law_shares(workers: u32, connections: u32)
     requires { 0 < workers }
     ensures total { sum (shares workers connections) ≡ connections }

@@ -12,30 +12,36 @@ pub trait Shelf {
     /// What it opens. It may go to another thread.
     type Keeper: Keeper + Send;
 
-    /// The rows at a path, where the shelf tells them there; those that a keeper appends stand there once it was shut.
+    /// The rows at a path, if the shelf tells them there; those that a keeper appends are there once it was shut.
     ghost rows: { Self → List ℕ → Option (List Row) };
 
-    /// Whether the keepers that it opens at a path tell what a stop may leave.
+    /// The keepers that it opens at a path tell what a stop may leave.
     ghost tells_stops: { Self → List ℕ → Bool };
 
-    /// Of which paths a keeper of which kind may be taken back.
+    /// A keeper of this kind may be taken back at this path.
     ghost has_opened: { Self → List ℕ → List Bool → Type 0 };
 
     /// How often a call of the shelf, or of a keeper that was shut, has failed.
     ghost faults: { Self → ℕ };
 
-    /// The moment at which it last opened a keeper, where its keepers tell what a stop may leave. Where it has several
-    /// kinds of keepers, it is the last of the kind at this path.
+    /// The moment at which it last opened a keeper, if its keepers tell what a stop may leave. A shelf with several
+    /// kinds of keepers gives the last of the kind at this path.
     ghost opened_at: { Self → List ℕ → ℕ };
 
-    /// What a stop since then might have left at a path at which it took back a keeper, where they tell that.
+    /// The bytes that a stop since then may have left at a path at which it took back a keeper, if keepers tell that.
     ghost left: { Self → List ℕ → List ℕ → Type 0 };
 
-    /// A keeper of the rows at the path, which has counted no fault. A path at which nothing stands
-    /// has no rows. At each path stands what stood there, unless it fails while it makes a file.
+    /// Opens a keeper of the rows at the path, which has counted no fault. A path at which nothing is has no rows.
+    /// Each path keeps the rows that it had, unless a keeper that tells stops fails while it makes a file.
     ///
-    /// `Failed` comes only where the count of faults rose, or stands at its last value, and
-    /// `OutOfMemory` only where it is as it was. An adapter may look at all that stands there.
+    /// # Errors
+    ///
+    /// - `Failed`: the fault counter rose.
+    /// - `OutOfMemory`: memory ran out. The fault counter is unchanged.
+    ///
+    /// # Cost
+    ///
+    /// An adapter may look at all that is at the path.
     fn open(&mut self, path: &str) -> Result<Self::Keeper, KeeperError>
         ensures found { IfOk result
             (λ keeper. IfSome (rows self.old path.now) (λ there. Self.Keeper.rows keeper ≡ Some there)) }
@@ -48,9 +54,9 @@ pub trait Shelf {
         ensures same { StaysOpened (tells_stops self.old path.now) path.now result (rows self.old) (rows self.new) }
         ensures cause { HasCause (faults self.old) (faults self.new) result };
 
-    /// Takes back a keeper of a kind that was opened at this path. Its rows then stand there; or these and then whole
-    /// one group that was tried, of keepers that tell what a stop leaves. At each other path stands what stood there.
-    /// The count of faults rises by at least the keeper's. Takes no memory.
+    /// Takes back a keeper of a kind that was opened at this path. Its rows are then at the path; if it tells what a
+    /// stop leaves, one whole group that was tried may follow them. Each other path keeps what it had. The fault
+    /// counter rises by at least the keeper's, up to its maximum. Takes no memory.
     fn shut(&mut self, path: &str, keeper: Self::Keeper)
         requires { has_opened self.old path.now (Self.Keeper.kind keeper) }
         ensures kept { IfSome (Self.Keeper.rows keeper)

@@ -15,10 +15,11 @@ use std::alloc::{AllocError, Global};
 use std::collections::BTreeMap;
 use std::marker::Model;
 
-/// Rows in memory, by path. An open fails exactly where it is listed.
+/// Keeps rows in memory, by path. An open fails exactly if it is listed.
 ///
-/// Contracts see the rows at each path, the paths that were opened, the lists and the count of
-/// faults.
+/// # Model
+///
+/// The rows at each path, the paths that were opened, the lists and the fault counter.
 pub struct MemShelf {
     alloc: Global,
     stores: BTreeMap<String, Vec<Row>>,
@@ -57,10 +58,10 @@ impl Model for MemShelf {
 }
 
 impl MemShelf {
-    /// A shelf with no rows at any path, with no call made and no fault counted.
+    /// Creates a shelf with no rows at any path, with no call made and no fault counted.
     ///
-    /// The opens numbered in `failing_opens` fail. Each keeper that it opens fails at its own
-    /// appends and at its own other calls as the two other lists tell. All three count from 0.
+    /// The opens numbered in `failing_opens` fail. Each keeper that it opens fails at its own appends and at its own
+    /// other calls as the two other lists say. All three count from 0.
     pub fn new(
         alloc: Global,
         failing_opens: Vec<u64>,
@@ -83,7 +84,11 @@ impl MemShelf {
         }
     }
 
-    /// The rows that stand at the path; one look-up.
+    /// Lends the rows at the path.
+    ///
+    /// # Cost
+    ///
+    /// One look-up.
     pub fn rows_at(&self, path: &str) -> &[Row]
         ensures { result.now ≡ files self.now.stores path.now }
     {
@@ -93,7 +98,11 @@ impl MemShelf {
         }
     }
 
-    /// Makes a store for the path where it has none; it has no rows then.
+    /// Makes a store of no rows for the path, if it has none.
+    ///
+    /// # Errors
+    ///
+    /// If memory runs out.
     fn make_store(&mut self, path: &str) -> Result<(), AllocError>
         ensures opened { OnOk result (IsTrue (has_store self.new.stores path.now)) }
         ensures files { files self.new.stores ≡ files self.old.stores }
@@ -108,7 +117,11 @@ impl MemShelf {
         add_store(self.alloc, &mut self.stores, path)
     }
 
-    /// A keeper of copies of the rows at the path, which fails as the lists tell.
+    /// Creates a keeper of copies of the rows at the path, which fails as the lists say.
+    ///
+    /// # Errors
+    ///
+    /// If memory runs out.
     fn keeper_at(&self, path: &str) -> Result<MemKeeper, AllocError>
         ensures rows { IfOk result (λ keeper. keeper.rows ≡ files self.now.stores path.now) }
         ensures appends { IfOk result (λ keeper. (keeper.appends.failing ≡ self.now.failing_appends)
@@ -124,7 +137,11 @@ impl MemShelf {
     }
 }
 
-/// Makes a store for a path that has none; it has no rows then.
+/// Makes a store of no rows for a path that has none.
+///
+/// # Errors
+///
+/// If memory runs out.
 fn add_store(
     alloc: Global,
     stores: &mut BTreeMap<String, Vec<Row>>,

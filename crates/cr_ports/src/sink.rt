@@ -14,19 +14,23 @@ pub enum WriteStep {
 
 /// Takes bytes in pieces.
 pub trait Sink {
-    /// The bytes that were taken, how many answers were begun, and how many of the bytes stood there when the last of
-    /// these was, where the sink tells them.
+    /// The bytes that were taken, how many answers were begun, and how many bytes had been taken when the last of
+    /// these was begun, if the sink tells them.
     ghost taken: { Self → Option Taken };
 
     /// How often a write has failed.
     ghost faults: { Self → ℕ };
 
-    /// Takes bytes from the front of `piece`, behind those taken before.
+    /// Takes bytes from the front of `piece`, after those taken before. A sink that has room for no byte of a piece
+    /// that isn't empty fails.
     ///
-    /// A sink that has room for no byte of a piece fails, the empty piece aside, and where it fails
-    /// it has taken none. The count of faults rises where it fails, unless it stands at its last
-    /// value, and nowhere else. A write costs at most a look at each byte of `piece`; an adapter's
-    /// may wait for its stream.
+    /// # Errors
+    ///
+    /// `Failed`: the fault counter rose, and no byte was taken. With every other answer the counter is unchanged.
+    ///
+    /// # Cost
+    ///
+    /// At most a look at each byte of `piece`; an adapter may wait for its stream.
     fn write(&mut self, piece: &[u8]) -> WriteStep
         ensures bytes { taken self.new ≡ taken_and (taken self.old) (took result piece.now) }
         ensures size { TakesWithin result (length piece.now) }
@@ -35,9 +39,9 @@ pub trait Sink {
         ensures failed { result ≡ WriteStep.Failed → Rises (faults self.old) (faults self.new) }
         ensures steady { result ≢ WriteStep.Failed → faults self.new ≡ faults self.old };
 
-    /// Tells that an answer begins: what is written from here on, up to the next such call, is one answer. A sink that
-    /// gives each answer a time measures it from the first write behind this call on. Nothing is written, and nothing
-    /// fails: one answer more is begun, behind the bytes that were taken so far. Takes no memory.
+    /// Begins an answer: what is written from now on, up to the next such call, is one answer. A sink that gives each
+    /// answer a time measures it from the first write after this call. Nothing is written, and nothing fails: one
+    /// more answer is begun, after the bytes that were taken so far. Takes no memory.
     fn begin_answer(&mut self)
         ensures begun { taken self.new ≡ and_begun (taken self.old) }
         ensures steady { faults self.new ≡ faults self.old };

@@ -10,11 +10,13 @@ use crate::{Sink, WriteStep};
 use std::alloc::{AllocError, Global};
 use std::marker::Model;
 
-/// Takes bytes up to its room, at most as many a call as are listed, and fails exactly at the
-/// calls that are listed and where its room is used up.
+/// Takes bytes up to its room, at most as many a call as are listed, and fails exactly at the listed calls and if its
+/// room is used up.
 ///
-/// Contracts see the bytes that were taken, how many answers were begun, as far as 64 bits count, and how many of the
-/// bytes stood there when the last of these was; the room that is left, and the lists.
+/// # Model
+///
+/// The bytes that were taken; how many answers were begun, up to 2^64 - 1, and how many bytes had been taken when the
+/// last of these was; the room that is left, and the lists.
 pub struct MemSink {
     bytes: Vec<u8>,
     begun: u64,
@@ -50,14 +52,16 @@ impl Model for MemSink {
 }
 
 impl MemSink {
-    /// A sink with room for `room` bytes, which is taken here, with no call made, no answer begun and no fault
-    /// counted.
+    /// Creates a sink with room for `room` bytes, which is taken here, with no call made, no answer begun and no
+    /// fault counted.
     ///
-    /// Call number i, from 0, takes at most `pieces[i]` bytes (1, where 0 is listed), and past the
-    /// list's end as many as there is room for. The calls numbered in `failing` fail, and so does
-    /// one whose piece isn't empty where no room is left.
+    /// Call number i, from 0, takes at most `pieces[i]` bytes (1 if 0 is listed), and past the list's end as many as
+    /// there is room for. The calls numbered in `failing` fail. A call also fails if its piece isn't empty and no
+    /// room is left.
     ///
-    /// The one error is a lack of memory.
+    /// # Errors
+    ///
+    /// If memory runs out.
     pub fn new(
         alloc: Global,
         room: usize,
@@ -81,7 +85,11 @@ impl MemSink {
         })
     }
 
-    /// The same bytes, room, lists and counts.
+    /// Copies the bytes, room, lists and counts.
+    ///
+    /// # Errors
+    ///
+    /// If memory runs out.
     pub(crate) fn copy(&self, alloc: Global) -> Result<Self, AllocError>
         ensures { IfOk result (λ copy. copy ≡ self.now) }
     {
@@ -97,14 +105,14 @@ impl MemSink {
         })
     }
 
-    /// The bytes that were taken, in order.
+    /// Returns the bytes that were taken, in order.
     pub fn taken(&self) -> &[u8]
         ensures { result.now ≡ self.now.taken.bytes }
     {
         &self.bytes
     }
 
-    /// How many answers were begun; from 2^64 - 1 on it stays there.
+    /// Returns how many answers were begun, up to 2^64 - 1.
     pub fn begun(&self) -> u64
         ensures { result ≡ self.now.taken.begun }
     {
@@ -153,7 +161,7 @@ impl Sink for MemSink {
     }
 }
 
-/// Appends the piece, for which there is room.
+/// Appends the piece; there is room for it.
 fn append_within(bytes: &mut Vec<u8>, piece: &[u8])
     requires { vec_len bytes.old + length piece.now ≤ vec_capacity bytes.old }
     ensures items { bytes.new.items ≡ bytes.old.items ++ piece.now }

@@ -16,21 +16,26 @@ pub enum ReadStep {
 
 /// Bytes that come in pieces.
 pub trait Source {
-    /// The bytes that are left, where the source tells them.
+    /// The bytes that are left, if the source tells them.
     ghost left: { Self → Option (List ℕ) };
 
     /// How often a read has failed.
     ghost faults: { Self → ℕ };
 
-    /// One read leads from the first state to the second, and gives these bytes: none at the end,
-    /// and none where it fails.
+    /// One read leads from the first state to the second, and gives these bytes: none at the end, and none if it
+    /// fails.
     ghost read_gives: { Self → Self → List ℕ → Type 0 };
 
-    /// Reads the next bytes into the front of `buf`, which isn't empty.
+    /// Reads the next bytes into the front of `buf`, which isn't empty. After `End` and after `Failed` the bytes that
+    /// are left are as before.
     ///
-    /// After `End` and after `Failed` the bytes that are left are as before. The count of faults rises
-    /// where it fails, unless it stands at its last value, and nowhere else. A read costs at most a
-    /// look at each byte of `buf`; an adapter's may wait for its stream.
+    /// # Errors
+    ///
+    /// `Failed`: the fault counter rose. With every other answer it is unchanged.
+    ///
+    /// # Cost
+    ///
+    /// At most a look at each byte of `buf`; an adapter may wait for its stream.
     fn read(&mut self, buf: &mut [u8]) -> ReadStep
         requires { 0 < length buf.old }
 

@@ -11,10 +11,11 @@ use crate::{ReadStep, Source};
 use std::alloc::AllocError;
 use std::marker::Model;
 
-/// Gives its bytes in pieces of the lengths that are listed, and fails exactly at the calls that
-/// are listed.
+/// Gives its bytes in pieces of the listed lengths, and fails exactly at the listed calls.
 ///
-/// Contracts see the bytes that are left and the lists.
+/// # Model
+///
+/// The bytes that are left, and the lists.
 pub struct MemSource {
     bytes: Unread,
     script: Script,
@@ -37,10 +38,10 @@ impl Model for MemSource {
 }
 
 impl MemSource {
-    /// A source of `bytes`, with no call made and no fault counted.
+    /// Creates a source of `bytes`, with no call made and no fault counted.
     ///
-    /// Call number i, from 0, gives at most `pieces[i]` bytes (1, where 0 is listed), and past the
-    /// list's end as many as the buffer takes. The calls numbered in `failing` fail.
+    /// Call number i, from 0, gives at most `pieces[i]` bytes (1 if 0 is listed), and past the list's end as many as
+    /// the buffer takes. The calls numbered in `failing` fail.
     pub fn new(bytes: Vec<u8>, pieces: Vec<usize>, failing: Vec<u64>) -> Self
         ensures left { result.left ≡ bytes.items }
         ensures pieces { result.script.pieces ≡ pieces.items }
@@ -54,7 +55,11 @@ impl MemSource {
         }
     }
 
-    /// The same bytes, lists and counts.
+    /// Copies the bytes, lists and counts.
+    ///
+    /// # Errors
+    ///
+    /// If memory runs out.
     pub(crate) fn copy(&self) -> Result<Self, AllocError>
         ensures { IfOk result (λ copy. copy ≡ self.now) }
     {
@@ -63,7 +68,7 @@ impl MemSource {
         Ok(MemSource { bytes, script })
     }
 
-    /// The bytes that no read has given yet.
+    /// Returns the bytes that no read has given yet.
     pub fn unread(&self) -> &[u8]
         ensures { result.now ≡ self.now.left }
     {
@@ -107,9 +112,11 @@ impl Source for MemSource {
     }
 }
 
-/// Gives as many bytes as the buffer takes, and never fails: its count of faults is 0.
+/// Gives as many bytes as the buffer takes, and never fails: its fault counter is 0.
 ///
-/// Contracts see the bytes that are left.
+/// # Model
+///
+/// The bytes that are left.
 #[derive(Drop)]
 pub struct PlainSource {
     bytes: Unread,
@@ -122,7 +129,7 @@ impl Model for PlainSource {
 }
 
 impl PlainSource {
-    /// A source of `bytes`.
+    /// Creates a source of `bytes`.
     pub fn new(bytes: Vec<u8>) -> Self
         ensures { result ≡ bytes.items }
     {

@@ -14,7 +14,9 @@ use std::marker::Model;
 
 /// A reader, such as standard input, as a source that doesn't tell its bytes.
 ///
-/// Contracts see the reader and the count of faults.
+/// # Model
+///
+/// The reader and the fault counter.
 #[derive(Drop)]
 pub struct ReadSource<R: Read> {
     reader: R,
@@ -28,7 +30,7 @@ impl<R: Read> Model for ReadSource<R> {
 }
 
 impl<R: Read> ReadSource<R> {
-    /// A source over `reader`, with no fault counted.
+    /// Creates a source over `reader`, with no fault counted.
     pub fn new(reader: R) -> Self
         ensures reader { result.stream ≡ reader }
         ensures faults { result.faults ≡ 0 }
@@ -44,8 +46,8 @@ impl<R: Read> Source for ReadSource<R> {
 
     ghost read_gives = { λ s t piece. Consumes (R.remaining s.stream) (R.remaining t.stream) piece };
 
-    /// One read of the reader: 0 bytes are the end, and each `Err` is a fault. So is a read that a
-    /// signal interrupts: the program catches none.
+    /// Reads once: 0 bytes are the end, and each `Err` is a fault. A read that a signal interrupts is one too, since
+    /// the program catches none.
     fn read(&mut self, buf: &mut [u8]) -> ReadStep
         requires { 0 < length buf.old }
         ensures bytes { ◌≡◌ {A = Option (List ℕ)} None (and_left (gave result buf.new) None) }
@@ -72,7 +74,9 @@ impl<R: Read> Source for ReadSource<R> {
 
 /// A writer, such as standard output, as a sink that doesn't tell its bytes.
 ///
-/// Contracts see the writer and the count of faults.
+/// # Model
+///
+/// The writer and the fault counter.
 #[derive(Drop)]
 pub struct WriteSink<W: Write> {
     writer: W,
@@ -86,7 +90,7 @@ impl<W: Write> Model for WriteSink<W> {
 }
 
 impl<W: Write> WriteSink<W> {
-    /// A sink over `writer`, with no fault counted.
+    /// Creates a sink over `writer`, with no fault counted.
     pub fn new(writer: W) -> Self
         ensures writer { result.stream ≡ writer }
         ensures faults { result.faults ≡ 0 }
@@ -111,9 +115,9 @@ impl<W: Write> Sink for WriteSink<W> {
 
     ghost faults = { λ s. s.faults };
 
-    /// One write, and then a flush, so that nothing that was taken waits in a buffer. Each `Err`
-    /// of either is a fault, though the writer may have taken bytes whose flush fails, and so is a
-    /// write that takes nothing of a piece that isn't empty.
+    /// Writes once, and then flushes, so that nothing that was taken waits in a buffer. Each `Err` of either is a
+    /// fault, though the writer may have taken bytes whose flush fails. So is a write that takes nothing of a piece
+    /// that isn't empty.
     fn write(&mut self, piece: &[u8]) -> WriteStep
         ensures bytes { ◌≡◌ {A = Option Taken} None (taken_and None (took result piece.now)) }
         ensures size { TakesWithin result (length piece.now) }
@@ -137,7 +141,7 @@ impl<W: Write> Sink for WriteSink<W> {
         }
     }
 
-    /// A writer has no time for each answer: nothing is done.
+    /// Does nothing: a writer has no time for each answer.
     fn begin_answer(&mut self)
         ensures begun { ◌≡◌ {A = Option Taken} None (and_begun None) }
         ensures steady { self.new.faults ≡ self.old.faults }

@@ -13,9 +13,11 @@ use std::io;
 use std::marker::Model;
 use std::time::{self, SystemTime, UNIX_EPOCH};
 
-/// The system's clock, as one that doesn't tell its moments.
+/// The system's clock, as one that doesn't tell its times.
 ///
-/// Contracts see the handle that reads it and the count of faults.
+/// # Model
+///
+/// The handle that reads it, and the fault counter.
 #[derive(Drop)]
 pub struct SystemClock<R: time::Clock> {
     rt: R,
@@ -28,8 +30,8 @@ impl<R: time::Clock> Model for SystemClock<R> {
     ghost view = { λ c. record { stream = c.rt; faults = c.faults } };
 }
 
-/// What the system's time is told as: its whole seconds since 1970-01-01T00:00:00Z. A fault where it can't be read,
-/// where it is before that, which std gives as an error too, and where it is past the last moment.
+/// Turns what the system gave into a clock's answer: the whole seconds since 1970-01-01T00:00:00Z. It is a fault if
+/// the time can't be read, is before that second (std gives an error for that too), or is past the last `Moment`.
 fn system_step(read: &io::Result<SystemTime>) -> ClockStep
     ensures step { result ≡ system_step read.now }
     ensures range { IsGiven result }
@@ -47,7 +49,7 @@ fn system_step(read: &io::Result<SystemTime>) -> ClockStep
 }
 
 impl<R: time::Clock> SystemClock<R> {
-    /// A clock that `rt` reads, with no fault counted.
+    /// Creates a clock that `rt` reads, with no fault counted.
     pub fn new(rt: R) -> Self
         ensures handle { result.stream ≡ rt }
         ensures faults { result.faults ≡ 0 }
@@ -61,7 +63,7 @@ impl<R: time::Clock> Clock for SystemClock<R> {
 
     ghost faults = { λ c. c.faults };
 
-    /// One look at the system's clock, which may stand before what it gave last.
+    /// Looks once at the system's clock, which may be before what it gave last.
     fn now(&mut self) -> ClockStep
         ensures moments { ◌≡◌ {A = Option (List ℕ)} None (and_left (moment_given result) None) }
         ensures range { IsGiven result }

@@ -4,7 +4,11 @@ ghost use Rattle.std.specs.Prelude.{◌≡◌, ◌≤◌, ◌++◌, ℕ, List, l
 use std::alloc::AllocError;
 use std::marker::Model;
 
-/// What a source in memory holds. Contracts see the bytes that were not given yet.
+/// What a source in memory holds.
+///
+/// # Model
+///
+/// The bytes that were not given yet.
 #[derive(Drop)]
 pub(crate) struct Unread {
     bytes: Vec<u8>,
@@ -29,14 +33,18 @@ fn copy_front(left: &[u8], buf: &mut [u8], n: usize)
 }
 
 impl Unread {
-    /// All of these bytes.
+    /// Holds all of these bytes; none was given yet.
     pub(crate) fn new(bytes: Vec<u8>) -> Self
         ensures { result ≡ bytes.items }
     {
         Unread { bytes, at: 0 }
     }
 
-    /// The same bytes.
+    /// Copies the bytes that were not given yet.
+    ///
+    /// # Errors
+    ///
+    /// If memory runs out.
     pub(crate) fn copy(&self) -> Result<Self, AllocError>
         ensures { IfOk result (λ copy. copy ≡ self.now) }
     {
@@ -44,21 +52,21 @@ impl Unread {
         Ok(Unread { bytes, at: self.at })
     }
 
-    /// The bytes.
+    /// Lends the bytes that were not given yet.
     pub(crate) fn as_slice(&self) -> &[u8]
         ensures { result.now ≡ self.now }
     {
         &self.bytes[self.at..]
     }
 
-    /// How many there are.
+    /// Returns how many bytes were not given yet.
     pub(crate) fn len(&self) -> usize
         ensures { result ≡ length self.now }
     {
         self.bytes.len() - self.at
     }
 
-    /// Gives the first `n` of them to the front of `buf`.
+    /// Moves the first `n` of the bytes to the front of `buf`.
     pub(crate) fn give(&mut self, buf: &mut [u8], n: usize)
         requires has { n ≤ length self.old }
         requires fits { n ≤ length buf.old }

@@ -6,15 +6,15 @@ use crate::shelf::Shelf;
 use cr_base::Row;
 use std::marker::Model;
 
-/// Is told of keepers, as an operator is by lines on standard error. Nothing goes by what it does.
+/// Is told of keepers, as an operator is by lines on standard error. Nothing depends on what it does.
 pub trait Observer<K: Keeper> {
-    /// An observer of one more keeper, which hasn't been told anything yet.
+    /// Creates an observer of one more keeper, which hasn't been told anything yet.
     fn of_another(&self) -> Self;
 
-    /// A keeper of the rows at this path was opened.
+    /// Is told that a keeper of the rows at this path was opened.
     fn opened(&mut self, path: &str);
 
-    /// An append to this keeper ended so.
+    /// Is told how an append to this keeper ended.
     fn appended(&mut self, keeper: &K, answer: Result<(), KeeperError>);
 }
 
@@ -34,7 +34,9 @@ impl<K: Keeper> Observer<K> for Silent {
 
 /// A keeper, each of whose appends an observer is told of.
 ///
-/// Contracts see the keeper.
+/// # Model
+///
+/// The keeper.
 #[derive(Drop)]
 pub struct WatchedKeeper<K: Keeper, N: Observer<K>> {
     keeper: K,
@@ -87,7 +89,9 @@ impl<K: Keeper, N: Observer<K>> Keeper for WatchedKeeper<K, N> {
 
 /// A shelf, of each of whose keepers an observer is told.
 ///
-/// Contracts see the shelf.
+/// # Model
+///
+/// The shelf.
 #[derive(Drop)]
 pub struct WatchedShelf<S: Shelf, N: Observer<S::Keeper>> {
     shelf: S,
@@ -101,14 +105,14 @@ impl<S: Shelf, N: Observer<S::Keeper>> Model for WatchedShelf<S, N> {
 }
 
 impl<S: Shelf, N: Observer<S::Keeper>> WatchedShelf<S, N> {
-    /// This shelf, with whoever is to be told.
+    /// Creates a shelf of whose keepers the observer is told.
     pub fn new(shelf: S, observer: N) -> Self
         ensures { result ≡ shelf }
     {
         WatchedShelf { shelf, observer }
     }
 
-    /// The shelf.
+    /// Lends the shelf.
     pub fn shelf(&self) -> &S
         ensures { result.now ≡ self.now }
     {

@@ -8,9 +8,12 @@ use crate::sink::{Sink, WriteStep};
 #[derive(Clone, Copy, PartialEq, Eq)]
 pub struct WriteFault;
 
-/// Writes all the bytes, or a part of them up to a fault. `WriteFault` comes only where the sink's count
-/// of faults rose, or stands at its last value, and bytes are missing then; else the count is as it was.
-/// Behind a fault nothing more is written. No answer is begun. Takes no memory.
+/// Writes all the bytes, or a part of them up to a fault, after which nothing more is written. No answer is begun.
+/// Takes no memory.
+///
+/// # Errors
+///
+/// `WriteFault`: the fault counter rose, and bytes are missing. Without it the counter is unchanged.
 pub fn write_all<O: Sink>(sink: &mut O, bytes: &[u8]) -> Result<(), WriteFault>
     ensures whole { OnOk result
         (Writes bytes.now (outlet_of O.taken O.faults sink.old) (outlet_of O.taken O.faults sink.new)) }
@@ -28,7 +31,11 @@ pub fn write_all<O: Sink>(sink: &mut O, bytes: &[u8]) -> Result<(), WriteFault>
 }
 
 /// Begins an answer, once and before its first byte, and writes all its bytes, or a part of them up to a fault. More
-/// bytes that are then written by `write_all` belong to the same answer. `WriteFault` is as there. Takes no memory.
+/// bytes that are then written by `write_all` belong to the same answer. Takes no memory.
+///
+/// # Errors
+///
+/// `WriteFault`: the fault counter rose, and bytes are missing. Without it the counter is unchanged.
 pub fn write_answer<O: Sink>(sink: &mut O, text: &[u8]) -> Result<(), WriteFault>
     ensures whole { OnOk result
         (WritesAnswers (text.now ∷ []) (outlet_of O.taken O.faults sink.old) (outlet_of O.taken O.faults sink.new)) }

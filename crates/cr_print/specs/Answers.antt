@@ -37,7 +37,7 @@ use Rattle.cr_print.specs.Page.{page_content}
 use Rattle.cr_print.specs.Me.{me_content}
 use Rattle.cr_print.specs.Response.{response_content}
 
--- an answer to HEAD ends behind its head (RFC 9110, section 9.3.2)
+-- an answer to HEAD ends after its head (RFC 9110, section 9.3.2)
 abbrev pub unless_head : Bool → List ℕ → List ℕ
 unless_head is_head content = if is_head then [] else content
 
@@ -59,7 +59,7 @@ unfoldable pub refusal_text : Refused → Sending → List ℕ
 refusal_text refused sending =
     answer_text (json_head (refused_status refused) (extra_of refused)) (refusal_content refused) sending
 
--- how an answer of this moment is sent behind which the connection closes
+-- how an answer of this moment is sent after which the connection closes
 abbrev pub closing : Bool → ℕ → Sending
 closing is_head at = record { is_head = is_head; closes = true; date = at }
 
@@ -107,7 +107,7 @@ count_text n sending = served_text (count_content n) sending
 unfoldable pub page_text : Page → Sending → List ℕ
 page_text page sending = served_text (page_content page) sending
 
--- what a user is told of herself
+-- what a user is told of themselves
 unfoldable pub me_text : Me → Sending → List ℕ
 me_text me sending = served_text (me_content me) sending
 
@@ -119,7 +119,7 @@ response_text text sending = served_text (response_content text) sending
 abbrev pub bytes_head : AnswerHead
 bytes_head = record { status = Okay; media_type = OctetStream; extra = Nothing }
 
--- what stands in front of a content of so many bytes that is served as it is
+-- the head before a content of so many bytes, which is sent unchanged
 unfoldable pub content_front : ℕ → Sending → List ℕ
 content_front n sending = head_text bytes_head n sending
 
@@ -127,7 +127,7 @@ content_front n sending = head_text bytes_head n sending
 abbrev pub text_head : AnswerHead
 text_head = record { status = Okay; media_type = PlainText; extra = Nothing }
 
--- what stands in front of a report of so many bytes
+-- the head before a report of so many bytes
 unfoldable pub report_front : ℕ → Sending → List ℕ
 report_front n sending = head_text text_head n sending
 
@@ -150,7 +150,7 @@ front_text sending (replies.Me me) = me_text me sending
 front_text sending (replies.Content content) = content_front (length content) sending
 front_text sending (replies.Report text) = report_front (length text) sending
 
--- what is written behind that, as it is kept: the bytes of a content or of a report
+-- what is written after that, as it is kept: the bytes of a content or of a report
 abbrev pub block_text : Sending → Reply → List ℕ
 block_text sending (replies.Content content) = unless_head sending.is_head content
 block_text sending (replies.Report text) = unless_head sending.is_head text

@@ -5,7 +5,7 @@ use Rattle.cr_base.specs.Words.{mode_name, phase_name}
 use Rattle.cr_base.specs.declared.reply.Conference.{Conference}
 use Rattle.cr_json.specs.Json.{Member, member_of, object_text}
 
--- its keys in the order of their bytes
+-- the members of what is told of the conference, in the order of their keys' bytes
 unfoldable pub conference_members : Conference → List Member
 conference_members conference =
     member_of (codes "mode") (Some (quoted (mode_name conference.mode)))

@@ -22,7 +22,7 @@ parts_on days t = record {
 unfoldable pub date_of : ℕ → Parts
 date_of at = parts_on (at / 86400) (civil_of at)
 
--- its text, 29 bytes
+-- the text of a date, 29 bytes
 unfoldable pub date_text : ℕ → List ℕ
 date_text at = imf_fixdate (date_of at)
 

@@ -13,7 +13,7 @@ found_members papers =
 unfoldable pub found_content : List FoundPaper → List ℕ
 found_content papers = object_text (found_members papers)
 
--- the number alone
+-- the one member of an answer with only the count
 unfoldable pub count_members : ℕ → List Member
 count_members n = member_of (codes "count") (Some (decimal n))
 

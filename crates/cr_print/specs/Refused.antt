@@ -162,7 +162,7 @@ extra_of (Row row rule) = Nothing
 extra_of KeeperFault = Nothing
 extra_of NoMemory = Nothing
 
--- what a refusal tells beside why: of a search where it is wrong, of a bulk which row breaks which rule
+-- what a refusal tells besides its name: of a search where it is wrong, of a bulk which row breaks which rule
 unfoldable pub further_members : Refused → List Member
 further_members (Closing refusal) = []
 further_members NoRoute = []

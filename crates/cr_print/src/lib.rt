@@ -3,13 +3,11 @@
 //! # Proved
 //!
 //! - With 512 bytes of room, refusals and receipts can't fail, and are the defined bytes: `print_refusal`,
-//!   `print_receipt`.
+//!   `print_receipt`. The text for lack of memory takes none: `no_memory_text`.
 //! - A reply is printed whole or not at all: `print_reply` (`prints`). Of a content or a report the front is printed
 //!   and the rest lent; both together are the defined bytes: `block`.
-//! - Replies of bounded length, and those fronts, take no memory if that room is there: `print_reply` (`sure`).
-//! - The text for lack of memory takes none, and equals the refusal that closes: `no_memory_text`.
-//! - An answer's first field is the date of its timestamp, by `httpdate`; one that is kept has its timestamp's text:
-//!   `date_line`, `Date::of`, `renewed`. Four dates are written out: `law_dates_written_out`.
+//! - An answer's first field is the date of its timestamp, by `httpdate`: `date_line`, `Date::of`, `renewed`,
+//!   `law_dates_written_out`.
 //!
 //! # Tested
 //!

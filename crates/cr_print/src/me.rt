@@ -1,4 +1,4 @@
-//! What a user is told of herself.
+//! What a user is told of themselves.
 ghost use Rattle.cr_json.specs.Put.{Appends};
 ghost use Rattle.cr_print.specs.Me.{me_content};
 

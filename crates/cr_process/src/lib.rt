@@ -7,9 +7,8 @@
 //!
 //! # Tested
 //!
-//! - The few lines that hand streams, arguments, shelf, gates and clock to `top`, write a line on standard error, and
-//!   end with that status. No clause says that the exit is the one that `top` gave: `checks/serve.py`,
-//!   `checks/store.py`, `checks/edge.py`.
+//! - The few lines that hand all this to `top`, and end with that status; no clause says that the exit is the one that
+//!   `top` gave: `checks/serve.py`, `checks/store.py`, `checks/edge.py`.
 #![tactic(auto)]
 
 ghost use Rattle.std.specs.Prelude.{◌≡◌};
@@ -18,7 +17,7 @@ ghost use Rattle.cr_top.specs.Exits.{exit_status};
 ghost use Rattle.cr_top.specs.declared.exit.Exit.{Exit};
 
 use cr_net::TcpGates;
-use cr_ports::{ReadSource, SystemClock, WriteSink};
+use cr_ports::{Clock, Gates, ReadSource, Shelf, Sink, Source, SystemClock, WriteSink};
 use cr_stores::{FileShelf, file_shelf, reason};
 use cr_top::{Exit, top};
 use cr_words::{Job, read_words};
@@ -29,7 +28,7 @@ use std::process::ExitCode;
 use std::sync::Wait;
 use std::thread::Threads;
 
-// The words of the command line, or none where one isn't UTF-8.
+// Returns the words of the command line, or none where one isn't UTF-8.
 fn words(rt: &HostRuntime) -> Result<Vec<String>, AllocError> {
     match env::args(rt) {
         Ok(words) => words.collect(rt.alloc()),
@@ -54,7 +53,7 @@ fn names_in(alloc: Global, words: &[String]) -> Named<'_> {
     Named { store, address }
 }
 
-// One line on standard error for each status but 0.
+// Writes one line on standard error for each status but 0.
 fn tell(
     rt: &HostRuntime,
     words: &[String],
@@ -88,15 +87,30 @@ fn tell(
     }
 }
 
-// The status of the process whose run ended so.
+// Returns the status of the process whose run ended so.
 fn status_of(exit: Exit) -> ExitCode
     ensures { ended.exit_status result ≡ exit_status exit }
 {
     ExitCode::from(exit.code())
 }
 
-/// Does what the command line asks for, and gives the status that the process is to end with. `handle` is the same
-/// runtime, as one that may wait: a library can't tell that of `rt`.
+// Runs `top` for a caller that states nothing of the run, so that `top`'s clauses aren't read again at files and
+// sockets.
+fn exit_of_run<R: Threads + Wait + Sync, I: Source, O: Sink, S: Shelf, G: Gates, C: Clock>(
+    handle: &R,
+    alloc: Global,
+    words: &[String],
+    input: &mut I,
+    out: &mut O,
+    shelf: &mut S,
+    gates: &mut G,
+    clock: &mut C,
+) -> Exit {
+    top(handle, alloc, words, input, out, shelf, gates, clock)
+}
+
+/// Runs what the command line names, and returns the status with which the process ends. `handle` is the runtime, as
+/// one that may wait: a library can't tell that of `rt`.
 pub fn run<R: Threads + Wait + Sync>(rt: &HostRuntime, handle: &R) -> ExitCode
     ensures { (exit : Exit) × (ended.exit_status result ≡ exit_status exit) }
 {
@@ -109,7 +123,7 @@ pub fn run<R: Threads + Wait + Sync>(rt: &HostRuntime, handle: &R) -> ExitCode
         let _ = tell(rt, &[], Exit::OutOfMemory, &shelf, None);
         return status_of(Exit::OutOfMemory);
     };
-    let exit = top(
+    let exit = exit_of_run(
         handle,
         rt.alloc(),
         words.as_slice(),

@@ -3,10 +3,8 @@
 //!
 //! # Proved
 //!
-//! With [what every table proves](../../cr_rooms/src/lib.rt):
-//!
-//! - A paper's forms in order, the last under a label, and before a phase, and the labels that have one are exact:
-//!   `Reviews::forms`, `last`, `last_before`, `has_form`, `labels`, `labels_before`.
+//! - [What every table proves](../../cr_rooms/src/lib.rt), of a paper's forms, the last under a label, and before a
+//!   phase, and the labels that have one.
 #![tactic(auto)]
 
 mod forms;

@@ -4,8 +4,8 @@ ghost use Rattle.std.specs.List.{list_all};
 ghost use Rattle.cr_routes.specs.Parts.{found_at, has_few_parameters};
 ghost use Rattle.cr_routes.specs.Paths.{paths};
 
-/// Each listed path has its own resource, and at most two parameters, so that none of them is lost. No path has a
-/// resource that doesn't begin with a slash, nor has the empty path.
+/// Proves that each listed path has its own resource, and at most two parameters, so that none of them is lost. No
+/// path has a resource that doesn't begin with a slash, nor has the empty path.
 pub fn law_paths()
     ensures listed { map (λ line. option_map (λ found. found.resource) (found_at line.0)) paths
         ≡ map (λ line. Some line.1) paths }

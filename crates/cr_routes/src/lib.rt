@@ -5,10 +5,8 @@
 //!
 //! # Proved
 //!
-//! - A path is found exactly as its parts say, with its parameters, each one nonempty part: `Routes::find`. The router
-//!   is `matchit`.
-//! - Each listed path has its resource, and none has more than two parameters. The empty path and one without a
-//!   leading slash have none: `law_paths` (`listed`, `few`, `rooted`, `empty`).
+//! - A path is found exactly as its parts say, with its parameters, each one nonempty part: `Routes::find`,
+//!   `law_paths`. The router is `matchit`.
 //! - A method asks for exactly what the table says; `Allow` names exactly the methods that ask for something:
 //!   `Resource::ask`, `Resource::allow` (`methods`).
 #![tactic(auto)]

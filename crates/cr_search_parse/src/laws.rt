@@ -6,14 +6,14 @@ ghost use Rattle.cr_search_parse.specs.Laws.{GrammarSays};
 ghost use Rattle.cr_search_parse.specs.Offsets.{Spells};
 ghost use Rattle.cr_search_parse.specs.Reading.{text_read};
 
-/// A text spells one search at most.
+/// Proves that a text spells one search at most.
 pub fn law_one_tree()
     ensures { (text : List ℕ) (t u : Option Tree) → Spells text t → Spells text u → t ≡ u }
 {}
 
-/// What `text_read` gives of a text, by the states of a reader, is what the grammar says of it, and the grammar says
-/// nothing else: the steps of a tree exactly where the text spells it, within the limits on bytes, levels and terms,
-/// and else the one offset at which the text is bad.
+/// Proves that what `text_read` gives of a text, by the states of a reader, is what the grammar says of it: the steps
+/// of a tree if and only if the text spells it within the limits on bytes, levels and terms, and else the one offset
+/// at which the text is bad. The grammar says nothing else.
 pub fn law_reading()
     ensures said { (text : List ℕ) → GrammarSays text (text_read text) }
     ensures only { (text : List ℕ) (read : Result (List Step) ℕ) → GrammarSays text read → text_read text ≡ read }

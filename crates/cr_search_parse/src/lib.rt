@@ -2,26 +2,15 @@
 //!
 //! # Proved
 //!
-//! Unless memory runs out:
-//!
-//! - What is read is spelled so by the grammar, and what is spelled so is read: `parse` (`found`, `only`).
-//! - A text is refused exactly if it spells no search within the limits: `parse` (`bad`). The offset is the last cut
-//!   before the first place at which it can't be completed any more.
-//!
-//! In any case:
-//!
-//! - A text spells at most one tree: `law_one_tree`.
-//! - One function of the text says all of this, with no run and no memory, and cr_wire uses it: `parse` (`exact`,
-//!   `text_read`), `law_reading`.
+//! - Unless memory runs out, what is read is spelled so by the grammar, and what is spelled so is read: `parse`
+//!   (`found`, `only`). A text is refused exactly if it spells no search within the limits: `parse` (`bad`).
+//! - A text spells at most one tree: `law_one_tree`. One function of the text says all of this, with no run and no
+//!   memory: `parse` (`exact`, `text_read`), `law_reading`.
 //!
 //! # Tested
 //!
 //! - All texts of up to four tokens of a small alphabet, against a search through the grammar:
 //!   `checks/search_texts.py`.
-//!
-//! # Assumed
-//!
-//! - Lack of memory is returned only if an allocation was refused.
 #![tactic(auto)]
 
 mod laws;

@@ -22,7 +22,8 @@ use Rattle.cr_base.specs.History.{History}
 use Rattle.cr_base.specs.HistoryFacts.{accounts_of}
 use Rattle.cr_base.specs.Keys.{kept_under}
 use Rattle.cr_base.specs.Lists.{given, is_nothing}
-use Rattle.cr_base.specs.Retries.{KeptCall, kept_call, name_told_by, repeated_receipt, Outcome, Repeats, drawn_by}
+use Rattle.cr_base.specs.Retries.{KeptCall, kept_call, repeated_receipt, Outcome, Repeats, drawn_by}
+use Rattle.cr_base.specs.Sources.{name_told_by}
 use Rattle.cr_base.specs.Rows.{key_mark}
 use Rattle.cr_policy.specs.Judge.{judge, decide, judge_bulk, decide_bulk}
 use Rattle.cr_policy.specs.Legal.{Legal}

@@ -3,56 +3,27 @@
 //!
 //! # Proved
 //!
-//! Requests:
-//!
-//! - A wish is the one that the whole text spells, at the timestamp of one call of the clock, made once the request
-//!   was there whole: `read_wish` (`reads`, `clock`). The source's counter rises only for `ReadFault`: `read_wish`
-//!   (`fault`, `steady`).
-//! - The requests judged are those that the bytes spell, in order, each in one turn of the pass (`TakesTurns`).
-//! - Each read was made while what follows some of the wishes answered wasn't settled (`needed`, `EndsAs`). So none is
-//!   made, and no request judged, after a refusal, after what closes, or after a failed write.
-//! - All of it holds of the whole text that the source had left; faults have causes: `serve_connection` (`whole`,
-//!   `read_fault`, `write_fault`, `clock_fault`).
-//!
-//! Answers:
-//!
-//! - Each request was answered with the bytes computed from its caller's view at its turn's place; with the one 401 if
-//!   authentication is required and missing (`answers`, `told`).
-//! - Each answer was begun at the sink once, before its first byte (`and_answers` of cr_ports).
+//! - The requests judged are those that the whole text of the source spells, in order, each in one turn of the pass
+//!   (`TakesTurns`). Each has the timestamp of one call of the clock: `read_wish` (`reads`, `clock`).
+//! - Each was answered with the bytes defined on its caller's view at its turn's place, or with the one 401
+//!   (`answers`, `told`).
 //! - Each ending says what the sink took and what the clock gave, one timestamp an answer, in order (`EndsAs`,
-//!   `GivesAnswers`).
-//! - If the clock failed, a request or what is none was there, which was not judged or answered (`ClockFails`).
-//! - Each counter rises only if its fault is answered, or the note that memory ran out fails (`counts`, and in
-//!   `ends`).
-//!
-//! Turns:
-//!
-//! - The history at a turn begins with all that the pass had seen. The turn adds the request's group to it, once;
-//!   other passes may take turns between (`TakesTurn`, `TakesTurns`).
-//! - What a turn did with the keeper is what `Book` says; a pass with the whole share finds the book that its last
-//!   turn left (`tried`, `as_left`).
-//! - The pass takes no other turn, except one in which memory ran out, which adds and tries nothing (`TurnsInVain`).
-//!   It is of the same lock, has its share, and takes at most 2^20 turns: `serve_connection` (`own`, `turns`).
-//! - On a closed lock with one pass no other turn came between: the requests lead from the first history to the last
-//!   (`ConnectionBytes`).
-//!
-//! Lost commands:
-//!
-//! - A 503 is only the answer to an accepted command or bulk whose rows were not kept, in a turn in which the keeper's
-//!   counter rose. That turn is marked and adds nothing (`Turned`, `CountsLoss`).
-//! - Over the turns of a pass at most as many commands are lost as it has marks more: `law_marked_losses`.
-//! - Unless it came to its maximum, the keeper's counter rose by at least the number lost; if none is lost, it stays:
-//!   `law_counted_faults`.
-//!
-//! Out of memory:
-//!
+//!   `GivesAnswers`). Each counter rises only if its fault is answered, or the note that memory ran out fails
+//!   (`counts`).
+//! - No read is made, and no request judged, after a refusal, after what closes, or after a failed write (`needed`,
+//!   `EndsAs`). If the clock failed, nothing was judged or answered (`ClockFails`).
+//! - The history at a turn begins with all that the pass had seen, and the turn adds the request's group to it, once
+//!   (`TakesTurn`). The pass takes no other turn, except one in which memory ran out, which adds and tries nothing
+//!   (`TurnsInVain`); at most 2^20 in all: `serve_connection` (`own`, `turns`).
+//! - A pass with the whole share finds the book that its last turn left (`tried`, `as_left`). On a closed lock with
+//!   one pass the requests lead from the first history to the last (`ConnectionBytes`).
+//! - A 503 is only the answer to an accepted command or bulk whose rows were not kept, in a turn that is marked and
+//!   adds nothing (`Turned`, `CountsLoss`). At most as many are lost as the pass has marks more, and as the keeper's
+//!   counter rose by, its maximum aside: `law_marked_losses`, `law_counted_faults`.
 //! - Memory runs out only for more bytes, a body, a search, a plan, an accepted command or bulk, or a query that only
-//!   `no_plan` may refuse: `MayLackMemory`. Room for answers is made before anything is read.
-//! - So no turn answers another refusal by 507. Reading a body may run out of memory, though its command would be
-//!   refused (`MayWantMemory`).
-//! - A 507 has its request's timestamp, or one of its own; it isn't written if the clock fails then
-//!   (`TellsWantOfMemory`). It has no content exactly if the head at hand was read, whether its body came or not, and
-//!   its method is HEAD (`IsToHead`).
+//!   `no_plan` may refuse: `MayLackMemory`, `MayWantMemory`.
+//! - A 507 has its request's timestamp, or one of its own (`TellsWantOfMemory`), and no content exactly if the head
+//!   at hand was read and its method is HEAD (`IsToHead`).
 //!
 //! Theorems over runs: [two runs, and commands sent again](../../../docs/CLAIMS.md#the-main-claims): `law_two_runs`,
 //! `law_repeats`.

@@ -32,7 +32,7 @@ impl Model for RoutedInbox {
 }
 
 impl RoutedInbox {
-    /// An inbox with no bytes; an error only for lack of memory, which the router takes.
+    /// Returns an inbox with no bytes; an error only for lack of memory, which the router takes.
     pub fn new(alloc: Global) -> Result<RoutedInbox, AllocError>
         ensures { IfOk result (λ inbox. inbox ≡ []) }
     {
@@ -112,7 +112,7 @@ pub fn read_wish<S: Source, C: Clock>(
     wish_now(alloc, &inbox.routes, &inbox.requests, clock)
 }
 
-/// The refusal, at the moment that the clock gives; `ClockFault` where it fails.
+/// Returns the refusal, at the moment that the clock gives; `ClockFault` where it fails.
 fn refusal_now<C: Clock>(why: Refusal, is_head: bool, clock: &mut C) -> WishRead
     ensures refusal { IsRefusedNow result why is_head }
     ensures bounded { IsBoundedRead result }
@@ -125,7 +125,8 @@ fn refusal_now<C: Clock>(why: Refusal, is_head: bool, clock: &mut C) -> WishRead
     }
 }
 
-/// The wish of the request that the inbox lends, at the moment that the clock gives; `ClockFault` where it fails.
+/// Returns the wish of the request that the inbox lends, at the moment that the clock gives; `ClockFault` where it
+/// fails.
 fn wish_now<C: Clock>(alloc: Global, routes: &Routes, requests: &Inbox, clock: &mut C) -> WishRead
     requires { IsSome requests.now.request }
     ensures wish { IsWishedNow result requests.now.request }
@@ -139,7 +140,7 @@ fn wish_now<C: Clock>(alloc: Global, routes: &Routes, requests: &Inbox, clock: &
     }
 }
 
-/// The wish of the request that the inbox lends, at this moment.
+/// Returns the wish of the request that the inbox lends, at this moment.
 fn wish_at(alloc: Global, routes: &Routes, requests: &Inbox, at: Moment) -> WishRead
     requires there { IsSome requests.now.request }
     requires moment { IsMoment at }

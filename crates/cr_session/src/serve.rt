@@ -78,7 +78,7 @@ struct Workspace {
 }
 
 impl Workspace {
-    /// Without a byte in its inbox, ahead of the first request; an error only for lack of memory.
+    /// Returns one without a byte in its inbox, ahead of the first request; an error only for lack of memory.
     fn new(alloc: Global) -> Result<Workspace, AllocError>
         ensures { IfOk result
             (λ space. (space.inbox ≡ []) × (512 ≤ vec_capacity space.reply) × (space.number ≡ 0)) }
@@ -91,8 +91,8 @@ impl Workspace {
         })
     }
 
-    /// How an answer of this moment is sent. Its date is the last answer's, where that is of the same second, and else
-    /// is written anew.
+    /// Returns how an answer of this moment is sent. Its date is the last answer's, where that is of the same second,
+    /// and else is written anew.
     fn sending(&mut self, is_head: bool, closes: bool, at: Moment) -> Sending
         ensures sending { result ≡ record { is_head = is_head; closes = closes; date = at } }
         ensures kept { (self.new.inbox ≡ self.old.inbox) × (self.new.reply ≡ self.old.reply)
@@ -112,7 +112,7 @@ impl Workspace {
 /// The number of the last request that a connection may have, from 0.
 const LAST_REQUEST: usize = 1_048_575;
 
-/// Whether the connection closes behind this request.
+/// Returns whether the connection closes behind this request.
 fn closes(wish: &Wish, number: usize) -> bool
     ensures { result ≡ closes number wish.now }
 {

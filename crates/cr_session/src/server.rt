@@ -20,7 +20,7 @@ pub struct Server<'a, R, K: Keeper> {
 }
 
 impl<'a, R, K: Keeper> Server<'a, R, K> {
-    /// A server of the book, and the first pass of its lock; without memory for that the book comes back.
+    /// Returns a server of the book, and the first pass of its lock; without memory for that the book comes back.
     pub fn new(
         rt: &'a R,
         alloc: Global,
@@ -36,7 +36,7 @@ impl<'a, R, K: Keeper> Server<'a, R, K> {
         }
     }
 
-    /// The book, when all passes are one again: as `HistoryLock::close` gives it.
+    /// Returns the book, when all passes are one again: as `HistoryLock::close` gives it.
     pub fn close(self, pass: Pass<Book<K>>) -> Book<K>
         requires own { pass.lock ≡ self.lock.lock }
         requires whole { pass.share ≡ 64 }

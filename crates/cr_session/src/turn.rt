@@ -95,8 +95,8 @@ pub(crate) fn take_turn<K: Keeper>(book: &mut Book<K>, wish: Wish) -> TurnResult
     }
 }
 
-/// Whether nobody wishes what wants a login; the book tells of the page and the content of a
-/// paper whether it is published.
+/// Returns whether nobody wishes what wants a login; the book tells of the page and the content of a paper whether it
+/// is published.
 fn is_unauthorized<K: Keeper>(book: &Book<K>, caller: &Option<UserNo>, what: &What) -> bool
     ensures { result ≡ is_unauthorized caller.now (view caller.now book.now.log) what.now }
 {
@@ -107,7 +107,7 @@ fn is_unauthorized<K: Keeper>(book: &Book<K>, caller: &Option<UserNo>, what: &Wh
     }
 }
 
-/// Who gives the wish: nobody, where its request doesn't read the credentials.
+/// Returns who gives the wish: nobody, where its request doesn't read the credentials.
 fn caller_of<K: Keeper>(book: &Book<K>, wish: &Wish) -> Option<UserNo>
     ensures { result ≡ caller book.now.log wish.now }
 {
@@ -193,7 +193,7 @@ fn judge_rows<K: Keeper>(
     }
 }
 
-/// How what breaks a rule is refused.
+/// Returns how what breaks a rule is refused.
 fn refused_for(broken: Broken) -> Refused
     ensures { result ≡ refused_for broken }
 {
@@ -238,7 +238,7 @@ pub(crate) fn print_turn(
     Ok(())
 }
 
-/// What is written behind that, lent from where it is kept: a paper's content.
+/// Returns what is written behind that, lent from where it is kept: a paper's content.
 pub(crate) fn block_of<'a>(turn: &'a TurnResult, sending: &Sending) -> &'a [u8]
     ensures { result.now ≡ turn_block turn.now sending.now }
 {

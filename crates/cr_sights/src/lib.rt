@@ -3,10 +3,8 @@
 //!
 //! # Proved
 //!
-//! - What an entry shows is what the policy says, also to its actor: `sight`.
-//! - The view is written line by line: whole, or up to a failed write or lack of memory. A write's fault means that
-//!   the sink's counter rose: `write_view`.
-//! - Unless memory runs out, the length is the number of its lines: `view_len`.
+//! - What an entry shows is what the policy says, also to its actor: `sight`. The view is written line by line: whole,
+//!   or up to a failed write or lack of memory: `write_view`; `view_len`.
 //!
 //! # Tested
 //!

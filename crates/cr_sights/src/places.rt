@@ -1,4 +1,4 @@
-//! At which place the last entry of each series stands.
+//! At which place the last entry of each series is.
 ghost use Rattle.std.specs.Prelude.{◌≡◌, ℕ, ◌<◌, [], length, if◌then◌else◌, slice_index, IfOk, OnOk};
 ghost use Rattle.cr_base.specs.Lists.{is_number};
 ghost use Rattle.cr_sights.specs.Series.{AreLast, is_last_at};

@@ -1,4 +1,4 @@
-//! Where an entry stands among those of its series.
+//! Where an entry is among those of its series.
 use std::marker::Model;
 
 /// The place of an entry among those of its series: a paper's texts, its content, the forms under one of its labels,

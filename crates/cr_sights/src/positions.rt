@@ -1,4 +1,4 @@
-//! Where each entry of a history stands among those of its series, entry by entry.
+//! Where each entry of a history is among those of its series, entry by entry.
 ghost use Rattle.std.specs.Prelude.{◌≡◌, ◌+◌, ◌<◌, ◌≤◌, ◌&&◌, length, not, IfOk, OnOk};
 ghost use Rattle.cr_base.specs.History.{opens};
 ghost use Rattle.cr_base.specs.Lists.{until};

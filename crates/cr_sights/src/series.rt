@@ -20,8 +20,8 @@ fn number(paper: PaperNo, index: u32) -> u32
     paper.number() as u32 * SERIES_PER_PAPER + index
 }
 
-/// Returns the number of the series that an entry is of: its paper's texts, its content, the forms under a label, or
-/// the decisions on it. `None` if no later entry can give the same again.
+/// Returns the number of the series to which an entry belongs: its paper's texts, its content, the reviews under a
+/// label, or the decisions on it. `None` if no later entry can give the same again.
 pub(crate) fn series(entry: &Entry) -> Option<u32>
     ensures same { (k : ℕ) → is_of k entry.now ≡ is_number result k }
     ensures alike { (H : History) → none_alike entry.now H ≡ none_of result H }

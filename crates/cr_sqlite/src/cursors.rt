@@ -14,7 +14,7 @@ pub(crate) struct Cursor {
     rows: Vec<sqlite::Row>,
     /// How many rows of the page were taken.
     taken: usize,
-    /// The first place behind the page; none where the page is the table's last.
+    /// The first place after the page; none if the page is the table's last.
     behind: Option<i64>,
 }
 
@@ -54,11 +54,12 @@ impl Drop for Cursors {
     }
 }
 
+/// Makes a statement.
 fn prepare<S: Alter>(conn: &mut Connection<S>, sql: &str) -> Result<Statement, Error> {
     conn.prepare(sql)
 }
 
-/// The rows of a page that begins at this place.
+/// Reads the rows of the page that begins at this place.
 fn page_from<S: Alter>(
     page: &Statement,
     conn: &mut Connection<S>,
@@ -67,7 +68,7 @@ fn page_from<S: Alter>(
     page.query_all(conn, params![place])
 }
 
-/// The first place behind these rows; none where there are none.
+/// Returns the first place after these rows; `None` if there are no rows.
 pub(crate) fn behind(rows: &[sqlite::Row]) -> Result<Option<i64>, Error> {
     match rows.last() {
         Some(last) => Ok(place_of(last)?.checked_add(1)),
@@ -76,6 +77,7 @@ pub(crate) fn behind(rows: &[sqlite::Row]) -> Result<Option<i64>, Error> {
 }
 
 impl Cursor {
+    /// Makes the statements of a table, and reads no row yet.
     fn new<S: Alter>(
         alloc: Global,
         conn: &mut Connection<S>,
@@ -98,7 +100,7 @@ impl Cursor {
         self.behind = Some(place);
     }
 
-    /// Reads the next page where all rows of this one were taken.
+    /// Reads the next page if all rows of this one were taken.
     fn fill<S: Alter>(&mut self, alloc: Global, conn: &mut Connection<S>) -> Result<(), Error> {
         if self.taken < self.rows.len() {
             return Ok(());
@@ -109,7 +111,7 @@ impl Cursor {
         }
     }
 
-    /// Lets the page go, before it reads the one that begins at this place.
+    /// Lets the page go, and then reads the one that begins at this place.
     fn turn<S: Alter>(
         &mut self,
         alloc: Global,
@@ -122,7 +124,7 @@ impl Cursor {
         Ok(())
     }
 
-    /// Whether the next row stands at this place.
+    /// Returns whether the next row is at this place.
     fn stands_at<S: Alter>(
         &mut self,
         alloc: Global,
@@ -136,7 +138,7 @@ impl Cursor {
         }
     }
 
-    /// The table, where its next row stands at this place.
+    /// Returns the table if its next row is at this place.
     fn table_at<S: Alter>(
         &mut self,
         alloc: Global,
@@ -149,7 +151,7 @@ impl Cursor {
         Ok(None)
     }
 
-    /// Takes the next row, which stands at this place.
+    /// Takes the next row, which is at this place.
     fn take(&mut self, alloc: Global, place: u64) -> Result<Row, StoreError> {
         let Some(next) = self.rows.get(self.taken) else {
             return Err(StoreError::Failed(Reason::MissingPlace(place)));
@@ -172,7 +174,7 @@ impl Cursors {
         })
     }
 
-    /// What adds a row to the table of a kind; none where the kind has no table.
+    /// Returns the statement that adds a row to the table of a kind; `None` if the kind has no table.
     pub fn insert_for(&self, kind: u64) -> Option<&Statement> {
         match Table::of_kind(kind)? {
             Table::People => Some(&self.people.insert),
@@ -190,7 +192,7 @@ impl Cursors {
         self.talk.seek(self.alloc, place);
     }
 
-    /// Takes the one row that stands at this place, which is the next one.
+    /// Takes the one row at this place, which is the next one.
     pub fn take<S: Alter>(
         &mut self,
         conn: &mut Connection<S>,
@@ -208,7 +210,7 @@ impl Cursors {
         }
     }
 
-    /// Each table whose next row stands at this place.
+    /// Returns each table whose next row is at this place.
     fn tables_at<S: Alter>(
         &mut self,
         conn: &mut Connection<S>,
@@ -222,7 +224,11 @@ impl Cursors {
     }
 }
 
-/// The one table that was found with a row at this place.
+/// Returns the one table that was found with a row at this place.
+///
+/// # Errors
+///
+/// `MissingPlace` if there is none, `TakenPlace` if there are several.
 fn the_one(place: u64, found: [Option<Table>; 4]) -> Result<Table, StoreError> {
     let mut tables = found.into_iter().flatten();
     let Some(one) = tables.next() else {

@@ -16,15 +16,17 @@ use sqlite::{Alter, Connection, Error, ErrorCode, Transaction};
 use std::alloc::Global;
 use std::marker::Model;
 
-/// The rows of a store, over a connection that nobody else has. It doesn't tell them.
+/// The rows of a store, over a connection that nothing else uses. It doesn't tell them.
 ///
-/// Contracts see the count of faults.
+/// # Model
+///
+/// The fault counter.
 pub struct SqliteKeeper<S: Alter> {
     conn: Connection<S>,
     cursors: Cursors,
     /// How many rows are kept.
     len: u64,
-    /// The row at which the cursors stand, if they do at one.
+    /// The row at which the cursors are, if they are at one.
     next: Option<u64>,
     faults: u64,
     reason: Option<Reason>,
@@ -54,8 +56,8 @@ impl<S: Alter> Model for SqliteKeeper<S> {
     ghost view = { λ k. k.faults };
 }
 
-/// Makes the store's tables where the database has none or those of an older version, and else looks at them. The
-/// cursors, and how many rows there are.
+/// Makes the store's tables if the database has none, or those of an older version, and else looks at them. Returns
+/// the cursors, and how many rows there are.
 fn prepare<S: Alter>(
     alloc: Global,
     conn: &mut Connection<S>,
@@ -66,7 +68,7 @@ fn prepare<S: Alter>(
     Ok((cursors, len))
 }
 
-/// How many rows there are.
+/// Counts the rows of all tables.
 fn count_all<S: Alter>(conn: &mut Connection<S>) -> Result<u64, Error> {
     let mut len = 0u64;
     for table in [Table::People, Table::Papers, Table::Ties, Table::Talk] {
@@ -75,13 +77,13 @@ fn count_all<S: Alter>(conn: &mut Connection<S>) -> Result<u64, Error> {
     Ok(len)
 }
 
-/// How many rows a table has.
+/// Counts the rows of a table.
 fn count_of<S: Alter>(conn: &mut Connection<S>, table: Table) -> Result<u64, Error> {
     conn.query_row(table.count(), &[])?.get(0)
 }
 
-/// Whether no statement runs over the connection any more: a sync has failed, or an append's last write, after which
-/// what the system shows of the file may not be on the disk.
+/// Returns whether no statement runs over the connection any more: a sync or an append's last write failed, after
+/// which what the system shows of the file may not be on the disk.
 fn is_over<S: Alter>(conn: &mut Connection<S>) -> bool {
     match conn.prepare(Table::People.count()) {
         Err(Error::SqliteFailure(ErrorCode::Closed)) => true,
@@ -119,6 +121,7 @@ fn insert_each<S: Alter>(
     Ok(())
 }
 
+/// Adds one row at a place.
 fn insert_one<S: Alter>(
     transaction: &mut Transaction<'_, S>,
     cursors: &Cursors,
@@ -132,15 +135,21 @@ fn insert_one<S: Alter>(
 }
 
 impl<S: Alter> SqliteKeeper<S> {
-    /// A keeper of the rows that the connection's database has as a store, with no fault counted.
-    /// A database without tables becomes a store without rows, in one transaction, and a store of version 1 or 2 one
-    /// of version 3, in one transaction as well, which moves each row as `migrate_row` says; any other is left as it
-    /// is.
+    /// Takes the rows that the connection's database has as a store, with no fault counted.
     ///
-    /// `Failed` comes only where `faults` rose, or stands at its last value: the database isn't a
-    /// store of one of these versions, or a statement failed. `OutOfMemory` comes only where it is as it was.
-    /// Counts the rows; what they are is looked at as they are read. Where each of the first that
-    /// many places then has one row, there is no other. Standard error is told nothing.
+    /// A database without tables becomes a store without rows, in one transaction. A store of version 1 or 2 becomes
+    /// one of version 3, in one transaction as well, which moves each row as `migrate_row` says. Any other database
+    /// is left unchanged. If each of the first that many places then has one row, there is no other. Nothing is
+    /// written to standard error.
+    ///
+    /// # Errors
+    ///
+    /// - `Failed`: `faults` rose. The database isn't a store of one of these versions, or a statement failed.
+    /// - `OutOfMemory`: memory ran out. `faults` is unchanged.
+    ///
+    /// # Cost
+    ///
+    /// Counts the rows; what they are is looked at as they are read.
     pub fn adopt(
         alloc: Global,
         mut conn: Connection<S>,
@@ -167,7 +176,7 @@ impl<S: Alter> SqliteKeeper<S> {
         }
     }
 
-    /// The connection, whose database has the rows.
+    /// Returns the connection, whose database has the rows.
     pub fn release(self) -> Connection<S> {
         let SqliteKeeper {
             conn,
@@ -181,7 +190,7 @@ impl<S: Alter> SqliteKeeper<S> {
         conn
     }
 
-    /// The connection, how many calls have failed, and what the last fault was.
+    /// Returns the connection, how many calls have failed, and what the last fault was.
     pub(crate) fn into_parts(self) -> (Connection<S>, u64, Option<Reason>)
         ensures { result.1 ≡ self }
     {
@@ -197,19 +206,19 @@ impl<S: Alter> SqliteKeeper<S> {
         (conn, faults, reason)
     }
 
-    /// How many calls have failed.
+    /// Returns how many calls have failed, up to 2^64 - 1.
     pub fn faults(&self) -> u64
         ensures { result ≡ self.now }
     {
         self.faults
     }
 
-    /// What the last fault was; none where no call has failed.
+    /// Returns what the last fault was; `None` if no call has failed.
     pub fn reason(&self) -> Option<Reason> {
         self.reason
     }
 
-    /// Counts a fault and keeps its reason. Out of memory is none.
+    /// Counts a fault and keeps its reason. Lack of memory is no fault.
     fn refused(&mut self, refusal: StoreError) -> KeeperError
         ensures { HasCause {T = ℕ} self.old self.new (Err result) }
     {
@@ -223,7 +232,7 @@ impl<S: Alter> SqliteKeeper<S> {
         }
     }
 
-    /// Tells of an append that was refused. Want of memory is for others to tell.
+    /// Writes a notice of an append that was refused. Of lack of memory it says nothing: others do.
     fn note(&mut self, refusal: StoreError)
         ensures { self.new ≡ self.old }
     {
@@ -246,7 +255,7 @@ impl<S: Alter> SqliteKeeper<S> {
         Ok(())
     }
 
-    /// Takes the row at this place, from the pages that are at hand where it is the next one.
+    /// Takes the row at this place, from the pages at hand if it is the next one.
     fn take(&mut self, at: u64) -> Result<Row, StoreError>
         ensures { self.new ≡ self.old }
     {
@@ -259,6 +268,7 @@ impl<S: Alter> SqliteKeeper<S> {
         Ok(row)
     }
 
+    /// Lets the pages at hand go, and reads on from this place.
     fn seek(&mut self, at: u64)
         ensures { self.new ≡ self.old }
     {
@@ -267,8 +277,8 @@ impl<S: Alter> SqliteKeeper<S> {
 }
 
 impl<S: Alter + Drop> SqliteKeeper<S> {
-    /// The same as `adopt`, where a connection that isn't taken is let go, and standard error is told where appends
-    /// begin to be refused and where they are taken again.
+    /// Takes the rows as `adopt` does, and lets a connection that isn't taken go. Standard error is told when appends
+    /// begin to be refused, and when they are taken again.
     pub(crate) fn adopt_or_drop(
         rt: &HostRuntime,
         conn: Connection<S>,
@@ -310,8 +320,8 @@ impl<S: Alter> Keeper for SqliteKeeper<S> {
 
     ghost opens = { λ _ _. ⊥ };
 
-    /// One transaction, whose commit waits until the disk has it. Where a sync or the last write fails, each later
-    /// call fails as well, and the rows that were refused may be found when the file is opened again.
+    /// Appends in one transaction, whose commit waits until the disk has it. After a sync or the last write failed,
+    /// each later call fails as well, and the rows that were refused may be found when the file is opened again.
     fn append_all(&mut self, added: &[Row]) -> Result<(), KeeperError> {
         match self.keep(added) {
             Ok(()) => {
@@ -329,7 +339,7 @@ impl<S: Alter> Keeper for SqliteKeeper<S> {
         Ok(self.len)
     }
 
-    /// Rows read in their order are read by pages; any other row begins a page.
+    /// Reads a row. Rows that are read in their order are read by pages; any other row begins a page.
     fn row(&mut self, at: u64) -> Result<Row, KeeperError> {
         match self.take(at) {
             Ok(row) => Ok(row),

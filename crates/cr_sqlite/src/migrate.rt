@@ -76,6 +76,7 @@ const FROM_FIRST: [Move; 4] = moves!("", "0, 0, x''");
 /// Version 2 kept moments.
 const FROM_SECOND: [Move; 4] = moves!("_v2", "at, 0, x''");
 
+/// Returns the texts that move the tables of an older version.
 fn moves_from(from: OldVersion) -> [Move; 4] {
     match from {
         OldVersion::First => FROM_FIRST,
@@ -83,7 +84,8 @@ fn moves_from(from: OldVersion) -> [Move; 4] {
     }
 }
 
-/// Makes a store of an older version one of this in one transaction, which moves each row as `migrate_row` says.
+/// Turns a store of an older version into one of this version, in one transaction, which moves each row as
+/// `migrate_row` says.
 pub(crate) fn migrate<S: Alter>(
     conn: &mut Connection<S>,
     from: OldVersion,
@@ -95,6 +97,7 @@ pub(crate) fn migrate<S: Alter>(
     Ok(())
 }
 
+/// Moves the rows of all tables, in one transaction.
 fn move_all<S: Alter>(conn: &mut Connection<S>, moves: &[Move]) -> Result<(), Error>
     requires { conn.old.in_transaction ≡ false }
     ensures one { CommitsOnce (state S.Store conn.old) (state S.Store conn.new) }
@@ -119,6 +122,7 @@ fn move_tables<S: Alter>(transaction: &mut Transaction<'_, S>, moves: &[Move]) -
     )
 }
 
+/// Moves the rows of one table: makes the new one, fills it, and drops the older one.
 fn move_table<S: Alter>(transaction: &mut Transaction<'_, S>, table: Move) -> Result<(), Error>
     ensures same { transaction.new.conn.ghost_name ≡ transaction.old.conn.ghost_name }
     ensures inside { CommitsNothing (state S.Store transaction.old.conn.now) (state S.Store transaction.new.conn.now) }
@@ -128,7 +132,7 @@ fn move_table<S: Alter>(transaction: &mut Transaction<'_, S>, table: Move) -> Re
     run(transaction, table.drop, &[])
 }
 
-/// Runs one statement and leaves its count of rows.
+/// Runs one statement, and drops its count of rows.
 pub(crate) fn run<S: Alter>(
     transaction: &mut Transaction<'_, S>,
     sql: &str,
@@ -159,7 +163,7 @@ fn move_rows<S: Alter>(transaction: &mut Transaction<'_, S>, page: &str) -> Resu
     Ok(())
 }
 
-/// Moves the page that begins at this place. The first place behind it; none where no row is left.
+/// Moves the page that begins at this place. Returns the first place after it; `None` if no row is left.
 fn move_from<S: Alter>(
     transaction: &mut Transaction<'_, S>,
     page: &str,
@@ -172,7 +176,7 @@ fn move_from<S: Alter>(
     behind(places.as_slice())
 }
 
-/// The places of the rows that were moved.
+/// Moves the rows of a page, and returns their places.
 fn moved<S: Alter>(
     transaction: &mut Transaction<'_, S>,
     page: &str,

@@ -11,11 +11,11 @@ pub enum Reason {
     OtherTables,
     /// The version that the store says isn't that of its tables.
     OtherVersion,
-    /// No row stands at this place, which is below the number of rows.
+    /// No row is at this place, which is below the number of rows.
     MissingPlace(u64),
-    /// Two rows stand at this place.
+    /// Two rows are at this place.
     TakenPlace(u64),
-    /// The row at this place stands in another table than that of its kind.
+    /// The row at this place is in another table than that of its kind.
     OtherTable(u64),
     /// A value of the row at this place is of another type, or no number that a row can hold.
     OtherValue(u64),

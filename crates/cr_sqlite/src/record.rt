@@ -20,7 +20,7 @@ pub(crate) fn insert<S: Alter>(
     Ok(())
 }
 
-/// The numbers of a row's columns; none where one is past 2^63 - 1.
+/// Returns the numbers of a row's columns; `None` if one is past 2^63 - 1.
 fn numbers_of(place: u64, row: &Row) -> Option<[i64; 11]> {
     let unsigned = [
         place, row.kind, row.maker, row.more, row.at, row.num, row.n1, row.n2, row.n3, row.n4,
@@ -51,12 +51,12 @@ fn put<S: Alter>(
     )
 }
 
-/// The place at which a row of a table stands.
+/// Reads the place of a table's row.
 pub(crate) fn place_of(row: &sqlite::Row) -> Result<i64, Error> {
     row.get(0)
 }
 
-/// The row that a row of this table tells, which stands at this place.
+/// Reads the row at this place from a row of its table.
 pub(crate) fn read(
     alloc: Global,
     table: Table,
@@ -69,7 +69,7 @@ pub(crate) fn read(
     }
 }
 
-/// Why the fields of the row at this place weren't read.
+/// Turns an error in reading the fields of the row at this place into a refusal.
 fn unread(place: u64, error: Error) -> StoreError {
     match StoreError::from(error) {
         StoreError::OutOfMemory => StoreError::OutOfMemory,
@@ -77,7 +77,7 @@ fn unread(place: u64, error: Error) -> StoreError {
     }
 }
 
-/// The row, where it may stand in the table.
+/// Returns the row if it may be in the table.
 fn of_table(table: Table, place: u64, row: Row) -> Result<Row, StoreError> {
     if is_of(table, row.kind) {
         return Ok(row);
@@ -85,8 +85,8 @@ fn of_table(table: Table, place: u64, row: Row) -> Result<Row, StoreError> {
     Err(StoreError::Failed(Reason::OtherTable(place)))
 }
 
-/// Whether a row of this kind may stand in the table: it is the table of the kind, or the kind has
-/// none. Rows of no kind are for whoever reads them to refuse.
+/// Returns whether a row of this kind may be in the table: it is the table of the kind, or the kind has none. Rows of
+/// no kind are refused by the code that reads them.
 fn is_of(table: Table, kind: u64) -> bool {
     match Table::of_kind(kind) {
         Some(other) => other == table,
@@ -94,6 +94,7 @@ fn is_of(table: Table, kind: u64) -> bool {
     }
 }
 
+/// Reads the fields of a row from its columns.
 fn fields_of(alloc: Global, row: &sqlite::Row) -> Result<Row, Error> {
     let [kind, maker, more, at, num, n1, n2, n3, n4, n5] = numbers_in(row)?;
     let mark = blob_at(alloc, row, 6)?;
@@ -116,9 +117,10 @@ fn fields_of(alloc: Global, row: &sqlite::Row) -> Result<Row, Error> {
     })
 }
 
-/// The columns of the numbers behind the place, among which the mark stands.
+/// The columns of the numbers after the place, the mark among them.
 const NUMBERS: [usize; 10] = [1, 2, 3, 4, 5, 7, 8, 9, 10, 11];
 
+/// Reads the numbers of a row from its columns.
 fn numbers_in(row: &sqlite::Row) -> Result<[u64; 10], Error> {
     let mut numbers = [0; 10];
     for (number, column) in numbers.iter_mut().zip(NUMBERS) {
@@ -127,11 +129,12 @@ fn numbers_in(row: &sqlite::Row) -> Result<[u64; 10], Error> {
     Ok(numbers)
 }
 
+/// Reads a number that isn't negative from a column.
 fn number_at(row: &sqlite::Row, column: usize) -> Result<u64, Error> {
     row.get(column)
 }
 
-/// The bytes of a column, copied once.
+/// Copies the bytes of a column, once.
 fn blob_at(alloc: Global, row: &sqlite::Row, column: usize) -> Result<Blob, Error> {
     match row.get_ref(column)? {
         ValueRef::Blob(bytes) => Ok(Blob::from_slice(alloc, bytes)?),

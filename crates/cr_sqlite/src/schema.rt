@@ -22,7 +22,7 @@ macro_rules! table_of_rows {
     };
 }
 
-/// The same of this version.
+/// The text that makes a table of rows of this version.
 macro_rules! table_of_today {
     ($table:literal) => {
         table_of_rows!(
@@ -64,16 +64,16 @@ const META: &str = "CREATE TABLE meta (version INTEGER NOT NULL) STRICT";
 /// they were written.
 const TABLES: [&str; 5] = [META, PAPERS, PEOPLE, TALK, TIES];
 
-/// Those of version 1, whose rows have no moment.
+/// The texts that make the tables of version 1, whose rows have no moment.
 const FIRST_TABLES: [&str; 5] = older_tables!("", "");
 
-/// Those of version 2, whose rows have no command's number.
+/// The texts that make the tables of version 2, whose rows have no command's number.
 const SECOND_TABLES: [&str; 5] = older_tables!("_v2", " at INTEGER NOT NULL,");
 
 /// What a store says of its tables: the version of those that are made.
 pub(crate) const VERSION: i64 = 3;
 
-/// What an older store says.
+/// Returns the version that an older store says.
 fn said_by(from: OldVersion) -> i64 {
     match from {
         OldVersion::First => 1,
@@ -81,8 +81,9 @@ fn said_by(from: OldVersion) -> i64 {
     }
 }
 
-/// Makes the tables in one transaction where there are none, and in one those of this version out of those of an
-/// older one; else tests that they are those of a store of this version. A database that isn't taken is as it was.
+/// Makes the tables, in one transaction, if there are none; or makes those of this version out of those of an older
+/// one, in one transaction as well; or tests that they are those of a store of this version. A database that isn't
+/// taken is unchanged.
 pub(crate) fn bring_up_to_date<S: Alter>(conn: &mut Connection<S>) -> Result<(), StoreError> {
     match tables_in(conn)? {
         Found::Nothing => make(conn),
@@ -107,12 +108,13 @@ enum Found {
     Others,
 }
 
+/// Looks what tables a database has.
 fn tables_in<S: Alter>(conn: &mut Connection<S>) -> Result<Found, Error> {
     let rows = all(conn, "SELECT sql FROM sqlite_schema ORDER BY name")?;
     found_in(rows.as_slice())
 }
 
-/// What tables the rows tell.
+/// Decides from the rows of the schema what tables there are.
 fn found_in(rows: &[Row]) -> Result<Found, Error> {
     if rows.is_empty() {
         return Ok(Found::Nothing);
@@ -129,7 +131,7 @@ fn found_in(rows: &[Row]) -> Result<Found, Error> {
     Ok(Found::Others)
 }
 
-/// Whether the rows are these texts.
+/// Returns whether the rows are these texts.
 fn are_texts(rows: &[Row], texts: &[&str]) -> Result<bool, Error> {
     if rows.len() != texts.len() {
         return Ok(false);
@@ -142,12 +144,13 @@ fn are_texts(rows: &[Row], texts: &[&str]) -> Result<bool, Error> {
     Ok(true)
 }
 
+/// Returns whether the row is this text.
 fn is_text(row: &Row, text: &str) -> Result<bool, Error> {
     let found: String = row.get(0)?;
     Ok(found.as_str() == text)
 }
 
-/// Tests that the store says this version, that of its tables.
+/// Tests that the store says this version, which is that of its tables.
 fn check_version<S: Alter>(conn: &mut Connection<S>, version: i64) -> Result<(), StoreError> {
     if has_version(conn, version)? {
         return Ok(());
@@ -155,17 +158,18 @@ fn check_version<S: Alter>(conn: &mut Connection<S>, version: i64) -> Result<(),
     Err(StoreError::Failed(Reason::OtherVersion))
 }
 
+/// Returns whether the store says this version.
 fn has_version<S: Alter>(conn: &mut Connection<S>, version: i64) -> Result<bool, Error> {
     let rows = all(conn, "SELECT version FROM meta LIMIT 2")?;
     is_version(rows.as_slice(), version)
 }
 
-/// All rows of a query.
+/// Reads all rows of a query.
 fn all<S: Alter>(conn: &mut Connection<S>, sql: &str) -> Result<Vec<Row>, Error> {
     conn.query_all(sql, &[])
 }
 
-/// Whether the rows are one, which tells this version.
+/// Returns whether there is one row, and it says this version.
 fn is_version(rows: &[Row], version: i64) -> Result<bool, Error> {
     let Some(first) = rows.first() else {
         return Ok(false);
@@ -183,6 +187,7 @@ fn make<S: Alter>(conn: &mut Connection<S>) -> Result<(), StoreError> {
     Ok(())
 }
 
+/// Makes the tables in one transaction.
 fn make_all<S: Alter>(conn: &mut Connection<S>) -> Result<(), Error>
     requires { conn.old.in_transaction ≡ false }
 {
@@ -191,7 +196,7 @@ fn make_all<S: Alter>(conn: &mut Connection<S>) -> Result<(), Error>
     transaction.commit()
 }
 
-/// Makes the tables of these texts, and tells their version.
+/// Makes the tables of these texts, and writes their version.
 fn run_all<S: Alter>(transaction: &mut Transaction<'_, S>, texts: &[&str]) -> Result<(), Error> {
     for text in texts {
         run(transaction, text, &[])?;

@@ -16,7 +16,9 @@ use std::rt::HostRuntime;
 
 /// Opens files as stores. While one is open, no other process can open it.
 ///
-/// Contracts see the count of faults.
+/// # Model
+///
+/// The fault counter.
 #[derive(Drop)]
 pub struct SqliteShelf {
     rt: HostRuntime,
@@ -36,12 +38,13 @@ impl Model for SqliteShelf {
 // keeper's method for a store in files is proved with all that such a store is made of, so few functions make one,
 // and those over any disk.
 
+/// Opens the file as a database, which it makes for its owner if it is missing.
 fn connect(rt: &HostRuntime, path: &str) -> Result<Connection<FileStore<File>>, Error> {
     make_file(rt, path)?;
     Connection::open(rt, path)
 }
 
-/// Makes the file for its owner alone, where it is missing.
+/// Makes the file, for its owner only, if it is missing.
 fn make_file(rt: &HostRuntime, path: &str) -> Result<(), Error> {
     match make_private(rt, path) {
         Ok(()) => Ok(()),
@@ -52,19 +55,20 @@ fn make_file(rt: &HostRuntime, path: &str) -> Result<(), Error> {
     }
 }
 
+/// Closes the connection.
 fn disconnect<D: Disk + Drop>(conn: Connection<FileStore<D>>) -> Result<(), Error> {
     conn.close()
 }
 
-/// What a keeper that was taken back tells: how many faults it counted, what the last of them was, and how closing its
-/// connection ended.
+/// What a keeper left when it was taken back: how many faults it counted, what the last of them was, and how closing
+/// its connection ended.
 struct Closed {
     faults: u64,
     reason: Option<Reason>,
     end: Result<(), Error>,
 }
 
-/// Closes a keeper over any disk, so that what it tells has no disk in it.
+/// Closes a keeper over any disk, so that what it leaves has no disk in it.
 fn close<D: Disk + Drop>(keeper: SqliteKeeper<FileStore<D>>) -> Closed
     ensures { result.faults ≡ keeper }
 {
@@ -78,7 +82,7 @@ fn close<D: Disk + Drop>(keeper: SqliteKeeper<FileStore<D>>) -> Closed
 }
 
 impl SqliteShelf {
-    /// A shelf with no fault counted. It opens no file yet.
+    /// Creates a shelf with no fault counted. It opens no file yet.
     pub fn new(rt: &HostRuntime) -> Self
         ensures { result ≡ 0 }
     {
@@ -89,13 +93,12 @@ impl SqliteShelf {
         }
     }
 
-    /// What the last fault was, of the shelf or of a keeper that it took back; none where nothing
-    /// has failed.
+    /// Returns what the last fault was, of the shelf or of a keeper that it took back; `None` if nothing has failed.
     pub fn reason(&self) -> Option<Reason> {
         self.reason
     }
 
-    /// Counts a fault and keeps its reason. Out of memory is none.
+    /// Counts a fault and keeps its reason. Lack of memory is no fault.
     fn refused(&mut self, refusal: StoreError) -> KeeperError
         ensures { HasCause {T = ℕ} self.old self.new (Err result) }
     {
@@ -109,7 +112,7 @@ impl SqliteShelf {
         }
     }
 
-    /// A keeper over the connection.
+    /// Takes a connection as a keeper.
     fn adopt<S: Alter + Drop>(
         &mut self,
         conn: Connection<S>,
@@ -123,7 +126,7 @@ impl SqliteShelf {
         }
     }
 
-    /// A keeper over the connection, where there is one.
+    /// Takes a connection as a keeper, if there is one.
     fn connected<D: Disk + Drop>(
         &mut self,
         conn: Result<Connection<FileStore<D>>, Error>,
@@ -137,7 +140,7 @@ impl SqliteShelf {
         }
     }
 
-    /// The same as a shelf tells it, whose reason is kept here. It was counted before.
+    /// Turns a keeper's refusal, which was counted before, into a shelf's, and keeps its reason.
     fn told(&mut self, error: StoreError) -> KeeperError
         ensures told { result ≡ without_reason error }
         ensures same { self.new ≡ self.old }
@@ -151,7 +154,7 @@ impl SqliteShelf {
         }
     }
 
-    /// Counts what closing failed of, and tells it in a line on standard error.
+    /// Counts a failure in closing, and writes a line on standard error.
     fn ended(&mut self, path: &str, end: Result<(), Error>)
         ensures { Gains self.old 0 self.new }
     {
@@ -163,7 +166,7 @@ impl SqliteShelf {
         }
     }
 
-    /// Counts a keeper's faults, and what closing it failed of. The reason is that of the keeper's last fault, if it
+    /// Counts a keeper's faults, and a failure in closing it. The reason is that of the keeper's last fault, if it
     /// had one.
     fn take_back(&mut self, path: &str, closed: Closed)
         ensures { Gains self.old closed.faults self.new }
@@ -194,9 +197,10 @@ impl Shelf for SqliteShelf {
 
     ghost left = { λ _ _ _. ⊥ };
 
-    /// Makes the file where it is missing, and so its log, for the owner alone. A store of version 1 or 2 becomes one
-    /// of version 3. All of it is looked at, and a file that isn't taken is left as it is, but for an older version
-    /// that was brought to 3 before. Where others may read a file that is taken, standard error is told so in a line.
+    /// Opens the file as a store. If it is missing, it is made, and so is its log, for its owner only. A store of
+    /// version 1 or 2 becomes one of version 3. All of it is looked at, and a file that isn't taken is unchanged,
+    /// except that one of an older version may have been brought to 3 before. If others may read a file that is
+    /// taken, standard error gets a line.
     fn open(&mut self, path: &str) -> Result<SqliteKeeper<FileStore<File>>, KeeperError> {
         let conn = connect(&self.rt, path);
         let keeper = self.connected(conn)?;
@@ -204,9 +208,9 @@ impl Shelf for SqliteShelf {
         Ok(keeper)
     }
 
-    /// What was appended stands in the file's log before; here the log is copied into the file. Where that fails,
-    /// which is one fault more, the log stays beside the file, and standard error is told so in a line. The reason is
-    /// that of the keeper's last fault, if it had one.
+    /// Copies the log, which has all that was appended, into the file. If that fails, which is one more fault, the
+    /// log stays beside the file, and standard error gets a line. The reason is that of the keeper's last fault, if
+    /// it had one.
     fn shut(&mut self, path: &str, keeper: SqliteKeeper<FileStore<File>>) {
         self.take_back(path, close(keeper));
     }

@@ -46,7 +46,7 @@ pub(crate) enum Table {
 }
 
 impl Table {
-    /// The table of a kind; none where no table is for it.
+    /// Returns the table of a kind; `None` if no table is for it.
     pub fn of_kind(kind: u64) -> Option<Table> {
         match kind {
             1..=4 | 18..=19 => Some(Table::People),
@@ -57,7 +57,7 @@ impl Table {
         }
     }
 
-    /// Adds a row: its place, then its fields in their order.
+    /// Returns the statement that adds a row: its place, then its fields in their order.
     pub fn insert(self) -> &'static str {
         match self {
             Table::People => insert!("people"),
@@ -67,7 +67,8 @@ impl Table {
         }
     }
 
-    /// Reads a page of rows from a place on: 1,000, and 16 where contents of 4 MiB may stand.
+    /// Returns the statement that reads a page of rows from a place on: 1,000, or 16 if contents of 4 MiB may be
+    /// among them.
     pub fn page(self) -> &'static str {
         match self {
             Table::People => page!("people", "1000"),
@@ -77,7 +78,7 @@ impl Table {
         }
     }
 
-    /// Counts the rows.
+    /// Returns the statement that counts the rows.
     pub fn count(self) -> &'static str {
         match self {
             Table::People => naming!("SELECT count(*) FROM ", "people"),

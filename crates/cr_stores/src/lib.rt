@@ -25,7 +25,7 @@ pub type FileJournals = WatchedShelf<JournalShelf<FileDisks>, StandardError>;
 /// Opens files as journals where their names end in `.cj`, and else as databases.
 pub type FileShelf = EitherShelf<FileJournals, SqliteShelf>;
 
-/// A shelf with no fault counted. It opens no file yet.
+/// Returns a shelf with no fault counted. It opens no file yet.
 pub fn file_shelf(rt: &HostRuntime) -> FileShelf
     ensures journals { result.journals.disks ≡ 0 }
     ensures refused { result.journals.refused ≡ 0 }
@@ -38,7 +38,7 @@ pub fn file_shelf(rt: &HostRuntime) -> FileShelf
     )
 }
 
-/// What the last fault at the path was; none where nothing has failed there that has a reason.
+/// Returns what the last fault at the path was; none where nothing has failed there that has a reason.
 pub fn reason(shelf: &FileShelf, path: &str) -> Option<Reason> {
     if is_journal(path) {
         return reason_of_journal(shelf.journals().shelf());
@@ -46,7 +46,7 @@ pub fn reason(shelf: &FileShelf, path: &str) -> Option<Reason> {
     shelf.others().reason().map(Reason::Database)
 }
 
-/// The same of the last journal.
+/// Returns what the last fault of the journals was; none where they had none that has a reason.
 fn reason_of_journal(journals: &JournalShelf<FileDisks>) -> Option<Reason> {
     if journals.found_none() {
         return Some(Reason::NoJournal);

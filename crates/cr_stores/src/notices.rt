@@ -20,7 +20,7 @@ impl Drop for StandardError {
 }
 
 impl StandardError {
-    /// Nothing was told yet.
+    /// Returns one that has told nothing yet.
     pub fn new(rt: &HostRuntime) -> Self {
         StandardError {
             rt: *rt,
@@ -38,7 +38,7 @@ impl Observer<JournalKeeper<FileDisk>> for StandardError {
         tell_if_open(&self.rt, path);
     }
 
-    /// Want of memory is for others to tell.
+    /// Tells where appends begin to be refused, and where they are taken again. Want of memory is for others to tell.
     fn appended(&mut self, keeper: &JournalKeeper<FileDisk>, answer: Result<(), KeeperError>) {
         match answer {
             Ok(()) => self.notices.taken(),

@@ -2,9 +2,7 @@
 //!
 //! # Proved
 //!
-//! With [what every table proves](../../cr_rooms/src/lib.rt):
-//!
-//! - A paper's tags for a user, by their bytes, are exact, unless memory runs out: `Tags::tags_for`.
+//! - [What every table proves](../../cr_rooms/src/lib.rt), of a paper's tags for a user, unless memory runs out.
 #![tactic(auto)]
 
 mod order;

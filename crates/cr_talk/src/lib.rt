@@ -2,10 +2,7 @@
 //!
 //! # Proved
 //!
-//! With [what every table proves](../../cr_rooms/src/lib.rt):
-//!
-//! - A paper's comments, a user's count of them, and its response are exact: `Talk::comments`, `count_of_user`,
-//!   `response`.
+//! - [What every table proves](../../cr_rooms/src/lib.rt).
 #![tactic(auto)]
 
 mod talk;

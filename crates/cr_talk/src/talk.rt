@@ -50,7 +50,7 @@ impl Model for Talk {
 
 /// What is read.
 impl Talk {
-    /// Creates one without comments and no responses.
+    /// Creates a table without comments or responses.
     ///
     /// # Cost
     ///

@@ -16,8 +16,9 @@ ghost use Rattle.cr_told.specs.ToldReports.{ReportsTold, LettersTold};
 ghost use Rattle.cr_told.specs.ToldReviews.{ReviewsTold};
 ghost use Rattle.cr_told.specs.ToldSearches.{SearchesTold};
 
-/// What a view shows, some answer tells, and no more. Each clause is an equation between an answer and what the
-/// entries show in the caller's view, whatever kind of entry shows it; it doesn't say what the answer is made of.
+/// Equates what a view shows with what answers tell: all of it, and no more. Each clause is an equation between an
+/// answer and what the entries show in the caller's view, whatever kind of entry shows it; it doesn't say what the
+/// answer is made of.
 ///
 /// *Scope:* legal histories; every user and an unauthenticated caller; of papers those that were submitted. The
 /// clauses on accounts, the conference, deadlines, reports, `/me` and searches hold of every history.

@@ -11,7 +11,7 @@ use Rattle.cr_lock.specs.Turns.{turn_at, marks}
 use Rattle.cr_lock.proofs.Sums.{total_append}
 use Rattle.cr_ports.specs.Count.{Gains}
 use Rattle.cr_session.specs.Tries.{Tries}
-use Rattle.cr_session.specs.Passing.{KnownPass, TakesTurns}
+use Rattle.cr_session.specs.Passing.{KnownPass}
 use Rattle.cr_session.specs.Replay.{lost_count}
 use Rattle.cr_session.specs.Turning.{TurnsInVain}
 use Rattle.cr_session.proofs.Endings.{behind_judged}

@@ -30,7 +30,7 @@ use Rattle.cr_book.specs.declared.opening.OpenError.TheVariants as errors
 use Rattle.cr_book.specs.Opening.{IsCounted, Opens}
 use Rattle.cr_book.specs.Seen.{SeenBook}
 use Rattle.cr_book.specs.Sound.{IsKept}
-use Rattle.cr_book.proofs.OpeningOnward.{legal-bounded}
+use Rattle.cr_beginnings.proofs.GroupRows.{legal-bounded}
 use Rattle.cr_session.specs.declared.serve.Ending.{Ending}
 use Rattle.cr_session.specs.Replay.{JudgedWish}
 use Rattle.cr_session.proofs.Endings.{replayed}

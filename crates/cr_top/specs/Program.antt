@@ -1,14 +1,13 @@
 -- What a run of the program does, by the words of its command line.
 use Rattle.std.specs.Prelude.{◌≡◌, ◌≢◌, ◌⊎◌, ℕ, Bool, List, Option, String}
 use Rattle.std.specs.declared.alloc.Global.{Global}
-use Rattle.cr_base.specs.declared.row.Row.{Row}
 use Rattle.cr_words.specs.Job.{NamedJob}
 use Rattle.cr_workers.specs.Connections.{Streams}
 use Rattle.cr_top.specs.declared.exit.Exit.{Exit}
 use Rattle.cr_top.specs.declared.exit.Exit.TheVariants as exits
 use Rattle.cr_top.specs.Jobs.{AnswersJob, Does, IsCounted, IsUntouched, Surroundings}
 use Rattle.cr_top.specs.Runs.{TellsUsage}
-use Rattle.cr_top.specs.Stores.{Keeping, keeping_of}
+use Rattle.cr_top.specs.Stores.{Keeping}
 use Rattle.cr_top.specs.Words.{AreFor, AreRefused, PassTest}
 
 -- This is one name, so that a caller who states nothing of a run needn't read what it says.
@@ -24,27 +23,8 @@ pub record RunsProgram {I K A B D : Type 0} (words : List (String Global)) (tell
   -- Words that name no job are answered by the usage line, and nothing is read.
   pub refuses : AreRefused words
       → IsUntouched exit a a' ⊎ (TellsUsage exit a.outside a'.outside × StoresAndGatesStay)
+  -- Nothing else comes to that exit, and words that pass `clap`'s own test never do.
   pub usage : exit ≡ exits.Usage → AreRefused words
   pub passes : PassTest words → exit ≢ exits.Usage
+  -- An exit that tells of a fault comes only where that count rose, or stands at its last value.
   pub counted : IsCounted exit a a'
-
--- Such a run came to this exit, over some input, output, stores, gates and clock of these types, by what contracts see
--- of them, and by some words. A caller that makes all of them says so of its run.
-pub record RanProgram {I O S G C K A B D : Type 0} (around : I → O → S → G → C → Surroundings I A B D)
-    (tells_stops : S → List ℕ → Bool) (opens : List ℕ → List Row → Type 0) (left_at : S → List ℕ → List ℕ → Type 0)
-    (left : I → Option (List ℕ)) (gives : I → I → List ℕ → Type 0) (streams : Streams K A B D) (exit : Exit)
-    : Type 0 where
-  pub words : List (String Global)
-  pub input : I
-  pub input' : I
-  pub out : O
-  pub out' : O
-  pub shelf : S
-  pub shelf' : S
-  pub gates : G
-  pub gates' : G
-  pub clock : C
-  pub clock' : C
-  pub runs : RunsProgram words (tells_stops shelf) (keeping_of (tells_stops shelf) opens (left_at shelf')) left gives
-      streams ((shelf' ≡ shelf) × (gates' ≡ gates)) exit (around input out shelf gates clock)
-      (around input' out' shelf' gates' clock')

@@ -100,7 +100,7 @@ pub record StaysShut (tells_stops : Bool) (path : List ℕ) (exit : Exit) (s s' 
 -- ---- what a run leaves
 
 -- The rows of a history stand at the path, where they were told, once its keeper was shut; or, of one that tells what a
--- stop leaves, these and then those of one group that wasn't kept, of which more is so.
+-- stop leaves, these and then those of one group that is lost, as `IsLost` says.
 abbrev pub StandOrOneMore : Bool → List ℕ → History → (History → Type 0) → ShelfState → ShelfState → Type 0
 StandOrOneMore tells_stops path history IsLost s s' =
     IfSome (s.rows path) (λ before. (s'.rows path ≡ Some (rows_of history))

@@ -40,7 +40,7 @@ pub enum Exit {
 }
 
 impl Exit {
-    /// The status that the process ends with: 0 to 10.
+    /// Returns the status that the process ends with: 0 to 10.
     pub fn code(self) -> u8
         ensures { result ≡ exit_status self }
     {
@@ -60,7 +60,7 @@ impl Exit {
     }
 }
 
-/// The exit of a run whose workers ended so, and whose last line was written or wasn't.
+/// Returns the exit of a run whose workers ended so, and whose last line was written or wasn't.
 pub(crate) fn exit_of_workers(ended: Worked, is_written: bool) -> Exit
     ensures { result ≡ exit_of_workers ended is_written }
 {
@@ -72,7 +72,7 @@ pub(crate) fn exit_of_workers(ended: Worked, is_written: bool) -> Exit
     }
 }
 
-/// The exit of a run whose connection ended so.
+/// Returns the exit of a run whose connection ended so.
 pub fn exit_of(ending: Ending) -> Exit
     ensures { result ≡ exit_of ending }
 {

@@ -96,7 +96,7 @@ fn do_job<R: Threads + Wait + Sync, I: Source, O: Sink, S: Shelf, G: Gates, C: C
     }
 }
 
-/// The same as `top`, clause by clause.
+/// Does what `top` does, clause by clause.
 fn run_words<R: Threads + Wait + Sync, I: Source, O: Sink, S: Shelf, G: Gates, C: Clock>(
     rt: &R,
     alloc: Global,

@@ -16,7 +16,7 @@ use cr_ports::{Clock, KeeperError, Shelf, Sink, Source};
 use std::alloc::Global;
 use std::sync::Wait;
 
-/// The exit of a run whose store the shelf didn't open.
+/// Returns the exit of a run whose store the shelf didn't open.
 fn exit_of_shelf(error: KeeperError) -> Exit
     ensures { result ≡ exit_of_shelf error }
 {
@@ -26,7 +26,7 @@ fn exit_of_shelf(error: KeeperError) -> Exit
     }
 }
 
-/// The exit of a run whose store has rows that don't open.
+/// Returns the exit of a run whose store has rows that don't open.
 fn exit_of_rows(error: OpenError) -> Exit
     ensures { result ≡ exit_of_rows error }
 {
@@ -40,7 +40,7 @@ fn exit_of_rows(error: OpenError) -> Exit
     }
 }
 
-/// The book of the rows at the path. Where they don't open, the store is shut again, and the exit tells why.
+/// Opens the book of the rows at the path. Where they don't open, the store is shut again, and the exit tells why.
 pub(crate) fn open_store<S: Shelf>(
     alloc: Global,
     path: &str,

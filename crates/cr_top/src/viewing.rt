@@ -20,7 +20,7 @@ use std::alloc::Global;
 /// More bytes than any name has, and as many as a short text may have.
 const MOST_BYTES: usize = 34;
 
-/// The user who registered this name, and none exactly where nobody did.
+/// Returns the user who registered this name, and none exactly where nobody did.
 fn user_named<K: Keeper>(book: &Book<K>, name: &str) -> Option<UserNo>
     requires { Legal book.now.log }
     ensures { result ≡ number_of name.now book.now.log }

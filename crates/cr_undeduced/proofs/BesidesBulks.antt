@@ -21,6 +21,7 @@ use Rattle.cr_base.specs.Checks.{judged}
 use Rattle.cr_base.specs.Drawn.{Drawn, stamped}
 use Rattle.cr_base.specs.History.{History, all_told_by}
 use Rattle.cr_base.specs.Lists.{is_number}
+use Rattle.cr_base.specs.Resolving.{resolve}
 use Rattle.cr_base.specs.Sources.{Facts, user_among}
 use Rattle.cr_base.specs.Tables.{Tables, tables_after, tables_from, tables_of}
 use Rattle.cr_base.specs.Ties.{switched}
@@ -113,7 +114,7 @@ module _ (stamp : Stamp) where
       accounts = accounts-seen (Some user) A ∙ accounts-also A B alike.told
           ∙ sym (accounts-seen (Some user) B)
 
-      own : (command : Command) → turns_own_conflict factsA user command ≡ turns_own_conflict factsB user command
+      own : (command : Command) → turns_own_conflict user (resolve factsA.accounts command) ≡ turns_own_conflict user (resolve factsB.accounts command)
       own (commands.SetConflict paper name on) = λ i. is_number (user_among (accounts i) name) user
       own command = refl
 
@@ -127,7 +128,7 @@ module _ (stamp : Stamp) where
           ap (λ (b : Bool). cond b (Err rules.BulkSelf) (judge (view (Some user) A) (call_by stamp command)))
           (own command)
           ∙ ap
-          (λ (r : Result Drawn Rule). cond (turns_own_conflict factsB user command) (Err rules.BulkSelf) r)
+          (λ (r : Result Drawn Rule). cond (turns_own_conflict user (resolve factsB.accounts command)) (Err rules.BulkSelf) r)
           (judge-same A B kept kept' alike.told alike.ties (call_by stamp command))
 
   abbrev first_of : Entry → History → Entry

@@ -25,6 +25,7 @@ use Rattle.cr_base.specs.History.{History}
 use Rattle.cr_base.specs.HistoryFacts.{phase_of, role_of, standing_of}
 use Rattle.cr_base.specs.Lists.{is_number}
 use Rattle.cr_base.specs.Phases.{committee_works}
+use Rattle.cr_base.specs.Resolving.{resolve}
 use Rattle.cr_base.specs.Sources.{user_among}
 use Rattle.cr_base.specs.Words.{is_chair}
 use Rattle.cr_base.proofs.CheckLaws.{NoneBroken, judged-Ok, judged-none}
@@ -50,7 +51,7 @@ use Rattle.cr_undeduced.proofs.MakersCalls.{call-also, call-other, may-accepted,
 
 module _ (H : History) (legal : Legal H) (u : ℕ) where
   abbrev pub turns_own : Command → Bool
-  turns_own command = turns_own_conflict (facts_in_view (Some u) (view (Some u) H)) u command
+  turns_own command = turns_own_conflict u (resolve (facts_in_view (Some u) (view (Some u) H)).accounts command)
 
   pub own-named : (p : Option ℕ) (name : Option (List ℕ)) (on : Bool)
       → turns_own (commands.SetConflict p name on) ≡ of_some (user_named name H) (λ v. eqb v u)
@@ -115,7 +116,7 @@ module _ (u w at : ℕ) where
 
   -- a row that is accepted where its command is, and it is no conflict of the caller's own
   pub seen-as : (B : History) (row : BulkRow) (command : Command) (d : Drawn) → row_command row ≡ Ok command
-      → turns_own_conflict (facts_in_view (Some w) (view (Some w) B)) w command ≡ false
+      → turns_own_conflict w (resolve (facts_in_view (Some w) (view (Some w) B)).accounts command) ≡ false
       → judge (view (Some w) B) (call_by others command) ≡ Ok d → row_seen others B row ≡ Ok d
   seen-as B row command d told other is =
       ap (λ (told : Result Command Rule). row_told_judged (facts_in_view (Some w) (view (Some w) B))
@@ -183,8 +184,8 @@ module _ (u at : ℕ) where
   Same A e = Unit {0}
 
   turns-also : (A B : History) → Alike A B → (command : Command)
-      → turns_own_conflict (facts_in_view (Some u) (view (Some u) A)) u command
-      ≡ turns_own_conflict (facts_in_view (Some u) (view (Some u) B)) u command
+      → turns_own_conflict u (resolve (facts_in_view (Some u) (view (Some u) A)).accounts command)
+      ≡ turns_own_conflict u (resolve (facts_in_view (Some u) (view (Some u) B)).accounts command)
   turns-also A B alike (commands.SetConflict paper name on) =
       ap (λ (lines : List AccountLine). is_number (user_among lines name) u)
       (accounts-seen (Some u) A ∙ accounts-also A B alike ∙ sym (accounts-seen (Some u) B))
@@ -224,7 +225,7 @@ module _ (u w at : ℕ) where
 
   none-own : (A B : History) → Legal B → Alike A B → (command : Command) → IsRowCommand command
       → may_do (Some u) at A command ≡ true → right_first A u w at (added (Some u) A command) ≡ true
-      → turns_own_conflict (facts_in_view (Some w) (view (Some w) B)) w command ≡ false
+      → turns_own_conflict w (resolve (facts_in_view (Some w) (view (Some w) B)).accounts command) ≡ false
   none-own A B legal alike (commands.SetConflict None name true) told may right = absurd (true≢false (sym may))
   none-own A B legal alike (commands.SetConflict None name false) told may right = absurd (true≢false (sym may))
   none-own A B legal alike (commands.SetConflict (Some p) name on) told may right =

@@ -24,6 +24,7 @@ use Rattle.cr_base.specs.History.{History}
 use Rattle.cr_base.specs.Judging.{judge_by}
 use Rattle.cr_base.specs.Lists.{is_number}
 use Rattle.cr_base.specs.Parse.{parse_paper}
+use Rattle.cr_base.specs.Resolving.{resolve}
 use Rattle.cr_base.specs.Sources.{Facts, Shown, user_among, facts_of_tables}
 use Rattle.cr_base.specs.Tables.{tables_of}
 use Rattle.cr_base.specs.TagTexts.{is_tag}
@@ -129,7 +130,7 @@ no-upload facts x (commands.Register name digest) row = tt
 no-upload facts x command row = tt
 
 same-own : (x : Payload) (facts facts' : Facts) (user : ℕ) (command : Command) → facts.accounts ≡ facts'.accounts
-    → turns_own_conflict facts' user (fill_command x command) ≡ turns_own_conflict facts user command
+    → turns_own_conflict user (resolve facts'.accounts (fill_command x command)) ≡ turns_own_conflict user (resolve facts.accounts command)
 same-own x facts facts' user (commands.SetConflict paper name on) same =
     λ i. is_number (user_among (sym same i) name) user
 same-own x facts facts' user command same = refl

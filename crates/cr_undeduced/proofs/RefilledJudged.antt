@@ -22,14 +22,12 @@ use Rattle.cr_base.specs.Checks.{Check, judged, of_role, register_checks, phase_
 use Rattle.cr_base.specs.Checks.{revise_checks, upload_checks, name_checks, mode_checks, conflict_checks, bid_checks}
 use Rattle.cr_base.specs.Checks.{assign_checks, unassign_checks, review_checks, respond_checks, comment_checks}
 use Rattle.cr_base.specs.Checks.{tag_checks, decide_checks, dismiss_checks, invite_checks, uninvite_checks}
-use Rattle.cr_base.specs.Drawn.{Drawn, stamped, grouped, registration, registration_drawn, phase_drawn}
-use Rattle.cr_base.specs.Drawn.{submission_drawn, revision_drawn, upload_drawn, withdrawal_drawn, naming_drawn}
-use Rattle.cr_base.specs.Drawn.{mode_drawn, conflict_drawn, bid_drawn, assignment_drawn, unassignment_drawn}
-use Rattle.cr_base.specs.Drawn.{review_drawn, response_drawn, comment_drawn, tag_drawn, decision_drawn, deadline_drawn}
-use Rattle.cr_base.specs.Drawn.{dismissal_drawn, invitation_drawn, uninvitation_drawn, besides}
+use Rattle.cr_base.specs.Deeds.{deed_at, drawn_by, is_missing, role_asked}
+use Rattle.cr_base.specs.Drawn.{Drawn, besides, coauthor_entries, grouped, registration, stamped}
 use Rattle.cr_base.specs.History.{History}
 use Rattle.cr_base.specs.Judging.{judge_by}
 use Rattle.cr_base.specs.Lists.{at_some, listed}
+use Rattle.cr_base.specs.Resolving.{all_found, resolve}
 use Rattle.cr_base.specs.Sources.{Facts, Shown, number_in, user_among, users_among}
 use Rattle.cr_base.specs.Sources.{role_among, paper_named, target_named, is_late}
 use Rattle.cr_base.specs.TagTexts.{is_for_chairs}
@@ -157,10 +155,8 @@ registration-filled : (xs : ℕ → Payload) (stamp : Stamp) (n : ℕ) (name dig
 registration-filled xs stamp n name digest = by (eqb n 1)
   where
     by : (b : Bool)
-        → grouped stamp (cond b (entries.Registered n name (xs 0).digest ∷ entries.Named n Chair ∷ [])
-        (entries.Registered n name (xs 0).digest ∷ []))
-        ≡ refilled xs (grouped stamp (cond b (entries.Registered n name digest ∷ entries.Named n Chair ∷ [])
-        (entries.Registered n name digest ∷ [])))
+        → grouped stamp (entries.Registered n name (xs 0).digest ∷ cond b (entries.Named n Chair ∷ []) [])
+        ≡ refilled xs (grouped stamp (entries.Registered n name digest ∷ cond b (entries.Named n Chair ∷ []) []))
     by true = refl
     by false = refl
 
@@ -247,45 +243,38 @@ module _ (facts facts' : Facts) (shown shown' : Shown) (same : SameRead facts fa
       → HasRoom facts' (xs 0) command → judge_by facts shown stamp command ≡ Ok given
       → Filled (judge_by facts' shown' stamp (fill_command (xs 0) command)) xs given
   judged-filled stamp xs (Register name digest) given room accepted =
-      fills xs _ _ (registration_drawn stamp (length facts.accounts + 1) name digest)
-      (registration_drawn stamp (length facts'.accounts + 1) name (xs 0).digest) given accepted
+      fills xs _ _ _ _ given accepted
       (λ i. register_checks (is_some (number_in (F i).accounts name)) (length (F i).accounts))
-      ((λ i. (registration_drawn stamp (length (sym F i).accounts + 1) name (xs 0).digest).group)
+      ((λ i. (grouped (record stamp { maker = length (sym F i).accounts + 1 }) (registration (length (sym F i).accounts + 1) name (xs 0).digest)))
       ∙ registration-filled xs (record stamp { maker = length facts.accounts + 1 }) (length facts.accounts + 1) name
       digest)
   judged-filled stamp xs (SetPhase to) given room accepted =
-      fills xs _ _ (phase_drawn stamp to) (phase_drawn stamp to) given accepted
+      fills xs _ _ _ _ given accepted
       (λ i. phase_checks ((F i).standing None) ((F i).standing None).phase to) refl
   judged-filled stamp xs (Submit title abstract authors) given room accepted =
-      fills xs _ _ (submission_drawn stamp (length facts.papers + 1) title abstract
-      (flat_map listed (users_among facts.accounts authors)))
-      (submission_drawn stamp (length facts'.papers + 1) (xs 0).title (xs 0).abstract_
-      (flat_map listed (users_among facts'.accounts authors))) given accepted
-      (λ i. submit_checks (list_any is_none (users_among (F i).accounts authors)) ((F i).standing None)
+      fills xs _ _ _ _ given accepted
+      (λ i. submit_checks (is_missing (F i).accounts (all_found (users_among (F i).accounts authors))) ((F i).standing None)
       (length (F i).papers) (F i).own_papers (is_late (F i) stamp.at))
-      ((λ i. (submission_drawn stamp (length (sym F i).papers + 1) (xs 0).title (xs 0).abstract_
-      (flat_map listed (users_among (sym F i).accounts authors))).group)
+      ((λ i. (grouped stamp (entries.Submitted (length (sym F i).papers + 1) (xs 0).title (xs 0).abstract_ ∷ coauthor_entries stamp.maker (length (sym F i).papers + 1) (unwrap_or (all_found (users_among (sym F i).accounts authors)) []))))
       ∙ submission-filled xs stamp (length facts.papers + 1) title abstract
-      (besides (stamp.maker ∷ []) (flat_map listed (users_among facts.accounts authors))))
+      (besides (stamp.maker ∷ []) (unwrap_or (all_found (users_among facts.accounts authors)) [])))
   judged-filled stamp xs (Revise paper title abstract) given room accepted =
-      fills xs _ _ (revision_drawn stamp (unwrap_or paper 0) title abstract)
-      (revision_drawn stamp (unwrap_or paper 0) (xs 0).title (xs 0).abstract_) given accepted
+      fills xs _ _ _ _ given accepted
       (λ i. revise_checks ((F i).standing paper) (paper_named (F i) (S i) paper) (is_late (F i) stamp.at)) refl
   judged-filled stamp xs (Upload paper content) given room accepted =
       let p : ℕ = unwrap_or paper 0 in
       let k = judged-Ok
       (upload_checks (facts.standing paper) (paper_named facts shown paper) facts.own_bytes (length content)
-      (is_late facts stamp.at))
-      (upload_drawn stamp p (length (shown.uploads p) + 1) content) given accepted in
+      (is_late facts stamp.at)) _ given accepted in
       let none = subst NoneBroken
       (λ i. upload_checks ((F i).standing paper) (paper_named (F i) (S i) paper) facts.own_bytes (length content)
       (is_late (F i) stamp.at)) k.0 in
       record {
-        drawn = upload_drawn stamp p (length (shown'.uploads p) + 1) (xs 0).content;
+        drawn = drawn_by facts'.accounts stamp
+            (deed_at facts' shown' stamp (resolve facts'.accounts (Upload paper (xs 0).content)));
         is = judged-none
             (upload_checks (facts'.standing paper) (paper_named facts' shown' paper) facts'.own_bytes
-            (length (xs 0).content) (is_late facts' stamp.at))
-            (upload_drawn stamp p (length (shown'.uploads p) + 1) (xs 0).content) (
+            (length (xs 0).content) (is_late facts' stamp.at)) _ (
               none.0,
               (
                 none.1.0,
@@ -301,101 +290,87 @@ module _ (facts facts' : Facts) (shown shown' : Shown) (same : SameRead facts fa
                 ),
               ),
             );
-        group = (λ i. (upload_drawn stamp p (sym (same.uploads p) i + 1) (xs 0).content).group)
+        group = (λ i. grouped stamp (entries.Uploaded p (sym (same.uploads p) i + 1) (xs 0).content ∷ []))
             ∙ ap (λ (d : Drawn). refilled xs d.group) k.1;
       }
   judged-filled stamp xs (Withdraw paper) given room accepted =
-      fills xs _ _ (withdrawal_drawn stamp (unwrap_or paper 0)) (withdrawal_drawn stamp (unwrap_or paper 0)) given
+      fills xs _ _ _ _ given
       accepted
       (λ i. revise_checks ((F i).standing paper) (paper_named (F i) (S i) paper) (is_late (F i) stamp.at)) refl
   judged-filled stamp xs (Name name role) given room accepted =
-      fills xs _ _ (naming_drawn stamp (unwrap_or (target facts name) 0) (unwrap_or name []) role)
-      (naming_drawn stamp (unwrap_or (target facts' name) 0) (unwrap_or name []) role) given accepted
+      fills xs _ _ _ _ given accepted
       (λ i. name_checks ((F i).standing None)
-      (option_map of_role (role_among (F i).accounts (user_among (F i).accounts name))) role)
-      (λ i. (naming_drawn stamp (unwrap_or (target (sym F i) name) 0) (unwrap_or name []) role).group)
+      (role_asked (F i) (user_among (F i).accounts name)) role)
+      (λ i. (grouped stamp (entries.Named (unwrap_or (target (sym F i) name) 0) role ∷ [])))
   judged-filled stamp xs (SetMode to) given room accepted =
-      fills xs _ _ (mode_drawn stamp to) (mode_drawn stamp to) given accepted
+      fills xs _ _ _ _ given accepted
       (λ i. mode_checks ((F i).standing None) ((F i).standing None).phase) refl
   judged-filled stamp xs (SetConflict paper name on) given room accepted =
-      fills xs _ _ (conflict_drawn stamp (unwrap_or paper 0) (unwrap_or (target facts name) 0) on)
-      (conflict_drawn stamp (unwrap_or paper 0) (unwrap_or (target facts' name) 0) on) given accepted
+      fills xs _ _ _ _ given accepted
       (λ i. conflict_checks ((F i).standing paper) (paper_named (F i) (S i) paper)
       (target_named (F i) (S i) (Some stamp.maker) paper (user_among (F i).accounts name)) on (is_late (F i) stamp.at))
-      (λ i. (conflict_drawn stamp (unwrap_or paper 0) (unwrap_or (target (sym F i) name) 0) on).group)
+      (λ i. (grouped stamp (entries.Conflict (unwrap_or paper 0) (unwrap_or (target (sym F i) name) 0) on ∷ [])))
   judged-filled stamp xs (Bid paper value) given room accepted =
-      fills xs _ _ (bid_drawn stamp (unwrap_or paper 0) value) (bid_drawn stamp (unwrap_or paper 0) (xs 0).value) given
+      fills xs _ _ _ _ given
       accepted
       (λ i. bid_checks ((F i).standing paper) (paper_named (F i) (S i) paper) (is_late (F i) stamp.at)) refl
   judged-filled stamp xs (Assign paper name kind) given room accepted =
       let p : ℕ = unwrap_or paper 0 in
-      fills xs _ _ (assignment_drawn stamp p (unwrap_or (target facts name) 0) kind (shown.labels p + 1))
-      (assignment_drawn stamp p (unwrap_or (target facts' name) 0) (xs 0).kind (shown'.labels p + 1)) given
+      fills xs _ _ _ _ given
       accepted
       (λ i. assign_checks ((F i).standing paper) (paper_named (F i) (S i) paper)
       (target_named (F i) (S i) (Some stamp.maker) paper (user_among (F i).accounts name)) ((S i).labels p))
-      (λ i. (assignment_drawn stamp p (unwrap_or (target (sym F i) name) 0) (xs 0).kind ((sym S i).labels p + 1)).group)
+      (λ i. (grouped stamp (entries.Assigned p (unwrap_or (target (sym F i) name) 0) (xs 0).kind ((sym S i).labels p + 1) ∷ [])))
   judged-filled stamp xs (Unassign paper name) given room accepted =
       let p : ℕ = unwrap_or paper 0 in
-      fills xs _ _
-      (unassignment_drawn stamp p (unwrap_or (target facts name) 0)
-      (unwrap_or (shown.ordinal (target facts name) p) 0))
-      (unassignment_drawn stamp p (unwrap_or (target facts' name) 0)
-      (unwrap_or (shown'.ordinal (target facts' name) p) 0)) given accepted
+      fills xs _ _ _ _ given accepted
       (λ i. unassign_checks ((F i).standing paper) (paper_named (F i) (S i) paper)
       (target_named (F i) (S i) (Some stamp.maker) paper (user_among (F i).accounts name))
       (at_some ((S i).written p) ((S i).ordinal (user_among (F i).accounts name) p)))
-      (λ i. (unassignment_drawn stamp p (unwrap_or (target (sym F i) name) 0)
-      (unwrap_or ((sym S i).ordinal (target (sym F i) name) p) 0)).group)
+      (λ i. (grouped stamp (entries.Unassigned p (unwrap_or (target (sym F i) name) 0)
+      (unwrap_or ((sym S i).ordinal (target (sym F i) name) p) 0) ∷ [])))
   judged-filled stamp xs (Review paper form) given room accepted =
       let p : ℕ = unwrap_or paper 0 in
-      fills xs _ _ (review_drawn stamp p (unwrap_or (facts.own_ordinal p) 0) (length (facts.own_forms p) + 1) form)
-      (review_drawn stamp p (unwrap_or (facts'.own_ordinal p) 0) (length (facts'.own_forms p) + 1) (xs 0).form) given
+      fills xs _ _ _ _ given
       accepted
       (λ i. review_checks ((F i).standing paper) (paper_named (F i) (S i) paper) (is_late (F i) stamp.at))
-      (λ i. (review_drawn stamp p (unwrap_or ((sym F i).own_ordinal p) 0) (sym (same.own_forms p) i + 1)
-      (xs 0).form).group)
+      (λ i. (grouped stamp (entries.Reviewed p (unwrap_or ((sym F i).own_ordinal p) 0) (sym (same.own_forms p) i + 1)
+      (xs 0).form ∷ [])))
   judged-filled stamp xs (Respond paper text) given room accepted =
       let p : ℕ = unwrap_or paper 0 in
-      fills xs _ _ (response_drawn stamp p text) (response_drawn stamp p (xs 0).text) given accepted
+      fills xs _ _ _ _ given accepted
       (λ i. respond_checks ((F i).standing paper) (paper_named (F i) (S i) paper) (same.response p i)
       (is_late (F i) stamp.at)) refl
   judged-filled stamp xs (Comment paper text) given room accepted =
       let p : ℕ = unwrap_or paper 0 in
-      fills xs _ _ (comment_drawn stamp p (length (shown.comments p) + 1) (facts.own_ordinal p) text)
-      (comment_drawn stamp p (length (shown'.comments p) + 1) (facts'.own_ordinal p) (xs 0).text) given accepted
+      fills xs _ _ _ _ given accepted
       (λ i. comment_checks ((F i).standing paper) (paper_named (F i) (S i) paper) (F i).own_comments
       (is_late (F i) stamp.at))
-      (λ i. (comment_drawn stamp p (sym (same.comments p) i + 1) ((sym F i).own_ordinal p) (xs 0).text).group)
+      (λ i. (grouped stamp (entries.Commented p (sym (same.comments p) i + 1) ((sym F i).own_ordinal p) (xs 0).text ∷ [])))
   judged-filled stamp xs (Tag paper tag on) given room accepted =
-      fills xs _ _ (tag_drawn stamp (unwrap_or paper 0) tag on)
-      (tag_drawn stamp (unwrap_or paper 0) (retold tag (xs 0).tag) (xs 0).on) given accepted
+      fills xs _ _ _ _ given accepted
       (λ i. tag_checks ((F i).standing paper) (paper_named (F i) (S i) paper) (chairs-retold tag (xs 0).tag i)) refl
   judged-filled stamp xs (Decide paper decision) given room accepted =
-      fills xs _ _ (decision_drawn stamp (unwrap_or paper 0) decision)
-      (decision_drawn stamp (unwrap_or paper 0) (xs 0).decision) given accepted
+      fills xs _ _ _ _ given accepted
       (λ i. decide_checks ((F i).standing paper) (paper_named (F i) (S i) paper)) refl
   judged-filled stamp xs (SetDeadline phase until) given room accepted =
-      fills xs _ _ (deadline_drawn stamp phase until) (deadline_drawn stamp phase until) given accepted
+      fills xs _ _ _ _ given accepted
       (λ i. deadline_checks ((F i).standing None) ((F i).standing None).phase phase) refl
   judged-filled stamp xs (Dismiss name) given room accepted =
-      fills xs _ _ (dismissal_drawn stamp (unwrap_or (target facts name) 0) (unwrap_or name []))
-      (dismissal_drawn stamp (unwrap_or (target facts' name) 0) (unwrap_or name [])) given accepted
+      fills xs _ _ _ _ given accepted
       (λ i. dismiss_checks ((F i).standing None)
-      (option_map of_role (role_among (F i).accounts (user_among (F i).accounts name)))
+      (role_asked (F i) (user_among (F i).accounts name))
       (chair_count (F i).accounts))
-      (λ i. (dismissal_drawn stamp (unwrap_or (target (sym F i) name) 0) (unwrap_or name [])).group)
+      (λ i. (grouped stamp (entries.Dismissed (unwrap_or (target (sym F i) name) 0) ∷ [])))
   judged-filled stamp xs (Invite paper name) given room accepted =
-      fills xs _ _ (invitation_drawn stamp (unwrap_or paper 0) (unwrap_or (target facts name) 0))
-      (invitation_drawn stamp (unwrap_or paper 0) (unwrap_or (target facts' name) 0)) given accepted
+      fills xs _ _ _ _ given accepted
       (λ i. invite_checks ((F i).standing paper) (paper_named (F i) (S i) paper)
       (target_named (F i) (S i) (Some stamp.maker) paper (user_among (F i).accounts name))
       (at_some ((S i).invited (user_among (F i).accounts name)) paper))
-      (λ i. (invitation_drawn stamp (unwrap_or paper 0) (unwrap_or (target (sym F i) name) 0)).group)
+      (λ i. (grouped stamp (entries.Invited (unwrap_or paper 0) (unwrap_or (target (sym F i) name) 0) ∷ [])))
   judged-filled stamp xs (Uninvite paper name) given room accepted =
-      fills xs _ _ (uninvitation_drawn stamp (unwrap_or paper 0) (unwrap_or (target facts name) 0))
-      (uninvitation_drawn stamp (unwrap_or paper 0) (unwrap_or (target facts' name) 0)) given accepted
+      fills xs _ _ _ _ given accepted
       (λ i. uninvite_checks ((F i).standing paper) (paper_named (F i) (S i) paper)
       (target_named (F i) (S i) (Some stamp.maker) paper (user_among (F i).accounts name))
       (at_some ((S i).invited (user_among (F i).accounts name)) paper))
-      (λ i. (uninvitation_drawn stamp (unwrap_or paper 0) (unwrap_or (target (sym F i) name) 0)).group)
+      (λ i. (grouped stamp (entries.Uninvited (unwrap_or paper 0) (unwrap_or (target (sym F i) name) 0) ∷ [])))

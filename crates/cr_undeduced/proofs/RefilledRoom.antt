@@ -2,7 +2,7 @@
 -- one whose place it takes.
 use Rattle.std.proofs.Common.{ℕ, Bool, true, false, ◌≡◌, ◌≤◌, ◌+◌, suc, List, [], ◌∷◌, ◌++◌, length, sym, ap, subst}
 use Rattle.std.proofs.Common.{◌∙◌, arith, Option, Some, None, Ok, eqb}
-use Rattle.std.specs.Prelude.{nat_lt, unwrap_or}
+use Rattle.std.specs.Prelude.{nat_lt}
 use Rattle.std.proofs.lemmas.List.Concat.{flat_map-append}
 use Rattle.std.proofs.lemmas.Bool.Decides.{nat_tests}
 use Rattle.cr_base.specs.declared.command.Call.{Call}
@@ -14,13 +14,15 @@ use Rattle.cr_base.specs.declared.entry.Stamp.{Stamp}
 use Rattle.cr_base.specs.declared.entry.Stamped.{Stamped}
 use Rattle.cr_base.specs.Calls.{stamp_of, call_of}
 use Rattle.cr_base.specs.Checks.{upload_checks}
-use Rattle.cr_base.specs.Drawn.{Drawn, upload_drawn}
+use Rattle.cr_base.specs.Deeds.{deed_at, drawn_by}
+use Rattle.cr_base.specs.Drawn.{Drawn}
 use Rattle.cr_base.specs.History.{History, all_told_by, own_bytes_told}
 use Rattle.cr_base.specs.HistoryFacts.{own_bytes_of}
 use Rattle.cr_base.specs.Judging.{judge_by_role}
 use Rattle.cr_base.specs.Lists.{given, is_number, total}
 use Rattle.cr_base.specs.Logins.{command_wants_login}
 use Rattle.cr_base.specs.Papers.{own_bytes}
+use Rattle.cr_base.specs.Resolving.{resolve}
 use Rattle.cr_base.specs.Sources.{Facts, Shown, paper_named, is_late, facts_of_tables, shown_in_tables}
 use Rattle.cr_base.specs.Tables.{Tables}
 use Rattle.cr_base.proofs.CheckLaws.{judged-Ok}
@@ -67,9 +69,9 @@ room xs H call drawn t t' caller bytes accepted quota = by call.caller call.comm
     by (Some u) (commands.Upload paper content) caller bytes accepted =
         let facts : Facts = facts_of_tables t (Some u) in
         let shown : Shown = shown_in_tables t in
-        let p : ℕ = unwrap_or paper 0 in
         let stamp : Stamp = stamp_of (call_of (Some u) call.at call.key (commands.Upload paper content)) in
-        let draws : Drawn = upload_drawn stamp p (length (shown.uploads p) + 1) content in
+        let draws : Drawn = drawn_by facts.accounts stamp
+        (deed_at facts shown stamp (resolve facts.accounts (commands.Upload paper content))) in
         let k = judged-Ok
         (upload_checks (facts.standing paper) (paper_named facts shown paper) facts.own_bytes (length content)
         (is_late facts call.at)) draws drawn accepted in
@@ -142,8 +144,8 @@ room-shorter xs H call drawn t t' caller bytes bytes' accepted shorter =
         let facts : Facts = facts_of_tables t u in
         let shown : Shown = shown_in_tables t in
         let stamp : Stamp = stamp_of (call_of u call.at call.key (commands.Upload paper content)) in
-        let draws : Drawn =
-        upload_drawn stamp (unwrap_or paper 0) (length (shown.uploads (unwrap_or paper 0)) + 1) content in
+        let draws : Drawn = drawn_by facts.accounts stamp
+        (deed_at facts shown stamp (resolve facts.accounts (commands.Upload paper content))) in
         let k = judged-Ok
         (upload_checks (facts.standing paper) (paper_named facts shown paper) facts.own_bytes (length content)
         (is_late facts call.at)) draws drawn accepted in

@@ -7,7 +7,6 @@ use Rattle.cr_base.specs.declared.bulk.Broken.{Broken}
 use Rattle.cr_base.specs.declared.bulk.BulkRow.{BulkRow}
 use Rattle.cr_base.specs.declared.command.Call.{Call}
 use Rattle.cr_base.specs.declared.command.Command.{Command}
-use Rattle.cr_base.specs.declared.command.Command.TheVariants as commands
 use Rattle.cr_base.specs.declared.entry.Entry.{Entry}
 use Rattle.cr_base.specs.declared.entry.Entry.TheVariants as entries
 use Rattle.cr_base.specs.declared.entry.Stamp.{Stamp}
@@ -15,9 +14,12 @@ use Rattle.cr_base.specs.declared.reply.Receipt.{Receipt}
 use Rattle.cr_base.specs.declared.reply.Receipt.TheVariants as receipts
 use Rattle.cr_base.specs.declared.reply.Rule.{Rule}
 use Rattle.cr_base.specs.declared.reply.Rule.TheVariants as rules
+use Rattle.cr_base.specs.declared.resolved.ResolvedCommand.{ResolvedCommand}
+use Rattle.cr_base.specs.declared.resolved.ResolvedCommand.TheVariants as resolved
 use Rattle.cr_base.specs.declared.retry.RetryKey.{RetryKey}
 use Rattle.cr_base.specs.declared.standing.Standing.{Standing}
 use Rattle.cr_base.specs.declared.target.Target.{Target}
+use Rattle.cr_base.specs.Accounts.{lines_of}
 use Rattle.cr_base.specs.Bulk.{entries_of, row_command, row_judged, row_told_judged, turns_own_conflict, and_rows}
 use Rattle.cr_base.specs.Bulk.{and_behind, rows_judged, bulk_behind, bulk_by_role, bulk_checks, bulk_of_rows}
 use Rattle.cr_base.specs.Bulk.{tables_basis}
@@ -28,6 +30,7 @@ use Rattle.cr_base.specs.Drawn.{Drawn, stamped, grouped}
 use Rattle.cr_base.specs.History.{History}
 use Rattle.cr_base.specs.Judging.{judge_by, judge_by_role}
 use Rattle.cr_base.specs.Phases.{authors_have_declared, conflicts_are_final}
+use Rattle.cr_base.specs.Resolving.{resolve}
 use Rattle.cr_base.specs.Sources.{Facts, Shown, facts_of_tables, shown_in_tables}
 use Rattle.cr_base.specs.Stage.{StageState, is_late_in, stage_after}
 use Rattle.cr_base.specs.Tables.{Tables, tables_after, tables_from}
@@ -51,44 +54,49 @@ conflict-in_time by paper (Some user) on none =
     of true true false none = none
 
 module _ (facts : Facts) (shown : Shown) (maker : ℕ) where
-  in-time : (command : Command) → NoneBroken (deed facts shown maker true command).checks
+  in-time : (command : ResolvedCommand) → NoneBroken (deed facts shown maker true command).checks
       → NoneBroken (deed facts shown maker false command).checks
-  in-time (commands.Submit title abstract authors) none = absurd (true≢false none.1.1.0)
-  in-time (commands.Revise paper title abstract) none = absurd (true≢false none.1.1.1.0)
-  in-time (commands.Upload paper content) none = absurd (true≢false none.1.1.1.0)
-  in-time (commands.Withdraw paper) none = absurd (true≢false none.1.1.1.0)
-  in-time (commands.SetConflict paper name on) none = conflict-in_time (facts.standing paper) _ _ on none
-  in-time (commands.Bid paper value) none = absurd (true≢false none.1.1.1.1.0)
-  in-time (commands.Review paper form) none = absurd (true≢false none.1.1.1.1.1.0)
-  in-time (commands.Respond paper text) none = absurd (true≢false none.1.1.1.0)
-  in-time (commands.Comment paper text) none = absurd (true≢false none.1.1.1.1.0)
-  in-time (commands.Register name digest) none = none
+  in-time (resolved.Submit title abstract authors) none = absurd (true≢false none.1.1.0)
+  in-time (resolved.Revise paper title abstract) none = absurd (true≢false none.1.1.1.0)
+  in-time (resolved.Upload paper content) none = absurd (true≢false none.1.1.1.0)
+  in-time (resolved.Withdraw paper) none = absurd (true≢false none.1.1.1.0)
+  in-time (resolved.SetConflict paper user on) none = conflict-in_time (facts.standing paper) _ _ on none
+  in-time (resolved.Bid paper value) none = absurd (true≢false none.1.1.1.1.0)
+  in-time (resolved.Review paper form) none = absurd (true≢false none.1.1.1.1.1.0)
+  in-time (resolved.Respond paper text) none = absurd (true≢false none.1.1.1.0)
+  in-time (resolved.Comment paper text) none = absurd (true≢false none.1.1.1.1.0)
+  in-time (resolved.Register name digest) none = none
   in-time command none = none
 
   -- what is drawn is the same
-  drawn-in_time : (stamp : Stamp) (command : Command)
-      → drawn_by stamp (deed facts shown maker false command) ≡ drawn_by stamp (deed facts shown maker true command)
-  drawn-in_time stamp (commands.Register name digest) = refl
+  drawn-in_time : (stamp : Stamp) (command : ResolvedCommand)
+      → drawn_by facts.accounts stamp (deed facts shown maker false command) ≡ drawn_by facts.accounts stamp (deed facts shown maker true command)
+  drawn-in_time stamp (resolved.Register name digest) = refl
   drawn-in_time stamp command = refl
 
   -- under another stamp, too late only where it was
-  judged-again : (again : Stamp) (late late' : Bool) → (late ≡ false → late' ≡ false) → (command : Command)
+  judged-again : (again : Stamp) (late late' : Bool) → (late ≡ false → late' ≡ false) → (command : ResolvedCommand)
       → NoneBroken (deed facts shown maker late command).checks
-      → judged_by again (deed facts shown maker late' command)
-      ≡ Ok (drawn_by again (deed facts shown maker late command))
+      → judged_by facts.accounts again (deed facts shown maker late' command)
+      ≡ Ok (drawn_by facts.accounts again (deed facts shown maker late command))
   judged-again again true true no_later command none = judged-none _ _ none
   judged-again again false false no_later command none = judged-none _ _ none
   judged-again again false true no_later command none = absurd (true≢false (no_later refl))
   judged-again again true false no_later command none =
       judged-none (deed facts shown maker false command).checks
-      (drawn_by again (deed facts shown maker false command)) (in-time command none)
+      (drawn_by facts.accounts again (deed facts shown maker false command)) (in-time command none)
       ∙ ap (λ (drawn : Drawn). Ok drawn) (drawn-in_time again command)
 
 -- ---- a command
 
 -- what its call does on the tables
 abbrev pub deed_of : Tables → Call → Deed
-deed_of t call = deed_at (facts_of_tables t call.caller) (shown_in_tables t) (stamp_of call) call.command
+deed_of t call = deed_at (facts_of_tables t call.caller) (shown_in_tables t) (stamp_of call)
+    (resolve (lines_of t.accounts) call.command)
+
+-- all that it adds
+abbrev pub added_by : Deed → List Entry
+added_by d = d.first ∷ d.behind
 
 -- it is too late at the other moment only where it was at the first
 abbrev pub IsNoLater : StageState → ℕ → ℕ → Type 0
@@ -97,24 +105,24 @@ IsNoLater stage own at = is_late_in stage own ≡ false → is_late_in stage at 
 -- what was drawn is drawn of its deed; and so it is under the other moment and number
 pub record Redrawn (t : Tables) (call : Call) (at : ℕ) (key : Option RetryKey) (drawn : Drawn) : Type 0 where
   pub own : drawn.group
-      ≡ grouped (stamp_by (deed_of t call).maker call.at call.key) (deed_of t call).entries
+      ≡ grouped (stamp_by (deed_of t call).maker call.at call.key) (added_by (deed_of t call))
   pub other : judge_by_role t (call_of call.caller at key call.command)
       ≡ Ok (record {
-        group = grouped (stamp_by (deed_of t call).maker at key) (deed_of t call).entries;
-        receipt = (deed_of t call).receipt;
+        group = grouped (stamp_by (deed_of t call).maker at key) (added_by (deed_of t call));
+        receipt = (drawn_by (lines_of t.accounts) (stamp_of call) (deed_of t call)).receipt;
       })
 
 pub call-redrawn : (t : Tables) (call : Call) (at : ℕ) (key : Option RetryKey) (drawn : Drawn)
     → IsNoLater t.stage call.at at → judge_by_role t call ≡ Ok drawn → Redrawn t call at key drawn
 call-redrawn t call at key drawn no_later accepted =
     let d : Deed = deed_of t call in
-    let k = judged-Ok d.checks (drawn_by (stamp_of call) d) drawn accepted in
+    let k = judged-Ok d.checks (drawn_by (lines_of t.accounts) (stamp_of call) d) drawn accepted in
     record {
       own = ap (λ (drawn : Drawn). drawn.group) (sym k.1);
       other =
           judged-again (facts_of_tables t call.caller) (shown_in_tables t) (stamp_of call).maker
           (stamp_of (call_of call.caller at key call.command)) (is_late_in t.stage call.at) (is_late_in t.stage at)
-          no_later call.command k.0;
+          no_later (resolve (lines_of t.accounts) call.command) k.0;
     }
 
 -- ---- groups under other stamps
@@ -161,25 +169,26 @@ module _ (stamp : Stamp) (at : ℕ) (key : Option RetryKey) where
     shown = shown_in_tables t
 
     command-again : (row : BulkRow) (command : Command) (drawn : Drawn) → row_command row ≡ Ok command
-        → turns_own_conflict facts stamp.maker command ≡ false → judge_by facts shown stamp command ≡ Ok drawn
+        → turns_own_conflict stamp.maker (resolve facts.accounts command) ≡ false → judge_by facts shown stamp command ≡ Ok drawn
         → RowAgain t row drawn
     command-again row command drawn told other accepted =
-        let d : Deed = deed_at facts shown stamp command in
-        let k = judged-Ok d.checks (drawn_by stamp d) drawn accepted in
+        let c : ResolvedCommand = resolve facts.accounts command in
+        let d : Deed = deed_at facts shown stamp c in
+        let k = judged-Ok d.checks (drawn_by facts.accounts stamp d) drawn accepted in
         let draws = row-draws facts shown stamp command drawn (row-told row command told).of_row other accepted in
         record {
-          other = drawn_by again d;
+          other = drawn_by facts.accounts again d;
           is =
               ap (row_told_judged facts shown again) told
               ∙ ap (λ b. cond b (Err rules.BulkSelf) (judge_by facts shown again command)) other
               ∙ judged-again facts shown stamp.maker again (is_late_in t.stage stamp.at) (is_late_in t.stage at)
-              no_later command k.0;
+              no_later c k.0;
           entries =
-              entries-grouped (record again { maker = d.maker }) d.entries
-              ∙ sym (entries-grouped (record stamp { maker = d.maker }) d.entries)
+              entries-grouped (record again { maker = d.maker }) (added_by d)
+              ∙ sym (entries-grouped (record stamp { maker = d.maker }) (added_by d))
               ∙ ap (λ (drawn : Drawn). entries_of drawn.group) k.1;
           tables =
-              tables-grouped d.maker at stamp.at key stamp.key t d.entries
+              tables-grouped d.maker at stamp.at key stamp.key t (added_by d)
               ∙ ap (λ (drawn : Drawn). tables_from t drawn.group) k.1;
           stage =
               ap (λ (g : History). (tables_from t g).stage) draws.group
@@ -190,7 +199,7 @@ module _ (stamp : Stamp) (at : ℕ) (key : Option RetryKey) where
     row-again row drawn accepted = by (row_command row) refl accepted
       where
         own : (command : Command) → row_command row ≡ Ok command → (b : Bool)
-            → turns_own_conflict facts stamp.maker command ≡ b
+            → turns_own_conflict stamp.maker (resolve facts.accounts command) ≡ b
             → ◌≡◌ {A = Result Drawn Rule} (cond b (Err rules.BulkSelf) (judge_by facts shown stamp command)) (Ok drawn)
             → RowAgain t row drawn
         own command told true is accepted = cc
@@ -200,7 +209,7 @@ module _ (stamp : Stamp) (at : ℕ) (key : Option RetryKey) where
             → RowAgain t row drawn
         by (Err rule) told accepted = cc
         by (Ok command) told accepted =
-            own command told (turns_own_conflict facts stamp.maker command) refl accepted
+            own command told (turns_own_conflict stamp.maker (resolve facts.accounts command)) refl accepted
 
   -- ---- all rows
 

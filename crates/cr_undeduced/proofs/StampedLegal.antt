@@ -4,6 +4,7 @@ use Rattle.std.proofs.Common.{◌∙◌, Option, Some, None, Result, Ok, Err, ap
 use Rattle.std.specs.Prelude.{not, ◌==◌}
 use Rattle.std.specs.List.{list_any}
 use Rattle.std.proofs.lemmas.Bool.{true≢false}
+use Rattle.cr_base.specs.Accounts.{lines_of}
 use Rattle.cr_base.specs.declared.bulk.Broken.{Broken}
 use Rattle.cr_base.specs.declared.command.Call.{Call}
 use Rattle.cr_base.specs.declared.command.Command.{Command}
@@ -27,6 +28,7 @@ use Rattle.cr_base.specs.Judging.{judge_by_role}
 use Rattle.cr_base.specs.Keys.{IsKeyOrNone}
 use Rattle.cr_base.specs.Logins.{command_wants_login}
 use Rattle.cr_base.specs.Moments.{IsMoment}
+use Rattle.cr_base.specs.Resolving.{resolve}
 use Rattle.cr_base.specs.Sources.{Facts, Shown, facts_of_tables, is_late, shown_in_tables}
 use Rattle.cr_base.specs.Stage.{is_late_in}
 use Rattle.cr_base.specs.Tables.{Tables, no_tables, tables_of}
@@ -46,7 +48,7 @@ use Rattle.cr_undeduced.proofs.RefilledLegal.{leads-grow}
 use Rattle.cr_undeduced.proofs.RefilledSteps.{behind-bounded}
 use Rattle.cr_undeduced.proofs.StampedGroups.{told-stamped, tables-stamped, behind-stamped, new_stamp, FirstFits}
 use Rattle.cr_undeduced.proofs.StampedGroups.{first-fits}
-use Rattle.cr_undeduced.proofs.StampedJudged.{IsNoLater, deed_of, call-redrawn, BulkRedrawn, bulk-redrawn}
+use Rattle.cr_undeduced.proofs.StampedJudged.{IsNoLater, added_by, deed_of, call-redrawn, BulkRedrawn, bulk-redrawn}
 
 -- ---- too late
 
@@ -80,7 +82,7 @@ data Whose (caller : Option ℕ) (command : Command) : Type 0 where
   nobodys : (name digest : List ℕ) → command ≡ commands.Register name digest → caller ≡ None → Whose caller command
   users : (user : ℕ) → caller ≡ Some user
       → ((facts : Facts) (shown : Shown) (maker : ℕ) (late : Bool)
-      → (deed facts shown maker late command).maker ≡ maker)
+      → (deed facts shown maker late (resolve facts.accounts command)).maker ≡ maker)
       → Whose caller command
 
 whose : (H : History) (caller : Option ℕ) (command : Command) → IsCaller H caller command → Whose caller command
@@ -111,8 +113,7 @@ first-numbered H stamp user name digest e es is new = by (user == 1) is
     same first is = subst (λ (entry : Entry). HasNewNumber H stamp entry) (sym is) new
 
     by : (b : Bool)
-        → cond b (entries.Registered user name digest ∷ entries.Named user Chair ∷ [])
-        (entries.Registered user name digest ∷ [])
+        → entries.Registered user name digest ∷ cond b (entries.Named user Chair ∷ []) []
         ≡ e ∷ es
         → stamp.key ≡ None
     by true is = same (entries.Registered user name digest) cc
@@ -188,7 +189,7 @@ module _ (group : List (Option ℕ)) (xs : ℕ → Payload) (bounded : (n : ℕ)
       → to ≡ followed_by H r ++ later → Legal (other (followed_by H r))
   call-legal H call to later legal legal' allowed fits (Err rule) is there = legal'
   call-legal H call to later legal legal' allowed fits (Ok drawn) is there =
-      by (deed_of t call).entries refl (whose H call.caller call.command allowed.given.caller)
+      by (added_by (deed_of t call)) refl (whose H call.caller call.command allowed.given.caller)
     where
       t : Tables
       t = tables_of H
@@ -205,7 +206,7 @@ module _ (group : List (Option ℕ)) (xs : ℕ → Payload) (bounded : (n : ℕ)
       call' : Call
       call' = call_of call.caller again.at again.key call.command
 
-      group_is : drawn.group ≡ grouped own (deed_of t call).entries
+      group_is : drawn.group ≡ grouped own (added_by (deed_of t call))
       group_is = (call-redrawn t call call.at call.key drawn (λ early. early) judged_by_tables).own
 
       -- where it is as late, and may be given by that number
@@ -215,7 +216,7 @@ module _ (group : List (Option ℕ)) (xs : ℕ → Payload) (bounded : (n : ℕ)
           let redrawn = call-redrawn t call again.at again.key drawn same judged_by_tables in
           subst (λ (G : History). Legal G)
           (sym (ap (λ (g : History). other (H ++ g)) group_is
-          ∙ behind-stamped group xs H own (deed_of t call).entries (Legal-whole H legal)))
+          ∙ behind-stamped group xs H own (added_by (deed_of t call)) (Legal-whole H legal)))
           (Legal-accepted (other H) call' _ legal' (record {
             given = record {
               caller = caller-stamped H (command_wants_login call.command) call.caller allowed.given.caller;
@@ -229,7 +230,7 @@ module _ (group : List (Option ℕ)) (xs : ℕ → Payload) (bounded : (n : ℕ)
           ∙ redrawn.other))
 
       -- its first entry, where there is one, fits
-      by : (es : List Entry) → (deed_of t call).entries ≡ es → Whose call.caller call.command
+      by : (es : List Entry) → (added_by (deed_of t call)) ≡ es → Whose call.caller call.command
           → Legal (other (H ++ drawn.group))
       by [] none whoever =
           subst (λ (G : History). Legal (other G))
@@ -249,7 +250,8 @@ module _ (group : List (Option ℕ)) (xs : ℕ → Payload) (bounded : (n : ℕ)
               let none : again.key ≡ None =
               first-numbered (other H) again (length (facts_of_tables t call.caller).accounts + 1) name digest e es
               (ap
-              (λ (c : Command). (deed_at (facts_of_tables t call.caller) (shown_in_tables t) (stamp_of call) c).entries)
+              (λ (c : Command). added_by (deed_at (facts_of_tables t call.caller) (shown_in_tables t) (stamp_of call)
+              (resolve (lines_of t.accounts) c)))
               (sym registers) ∙ entries) fitting.1.numbered in
               legal-again same
               (subst (λ (caller : Option ℕ). IsKeyOf caller again.key) (sym nobody)

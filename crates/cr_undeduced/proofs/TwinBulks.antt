@@ -6,6 +6,7 @@ use Rattle.std.specs.Prelude.{map, not}
 use Rattle.std.specs.Option.{option_map}
 use Rattle.std.proofs.lemmas.Bool.{true≢false, eqb-true}
 use Rattle.std.proofs.lemmas.List.{map-append}
+use Rattle.cr_base.specs.Resolving.{resolve}
 use Rattle.cr_base.specs.declared.bulk.Broken.{Broken}
 use Rattle.cr_base.specs.declared.bulk.BulkRow.{BulkRow}
 use Rattle.cr_base.specs.declared.command.Command.{Command}
@@ -199,9 +200,9 @@ module _ (t : Twins) (u at : ℕ) where
 
     none-own : (command : Command) (text : Option (List ℕ)) → IsRowCommand command
         → may_do (Some u) at A command ≡ true → giver t u command ≡ u
-        → turns_own_conflict (facts_in_view (Some u) (view (Some u) A)) u command ≡ false
+        → turns_own_conflict u (resolve (facts_in_view (Some u) (view (Some u) A)).accounts command) ≡ false
         → added (Some u) B (rename text command) ≡ map (twin_entry t) (added (Some u) A command)
-        → turns_own_conflict (facts_in_view (Some u) (view (Some u) B)) u (rename text command) ≡ false
+        → turns_own_conflict u (resolve (facts_in_view (Some u) (view (Some u) B)).accounts (rename text command)) ≡ false
     none-own (commands.SetConflict None name true) text of_row may stays own adds = absurd (true≢false (sym may))
     none-own (commands.SetConflict None name false) text of_row may stays own adds = absurd (true≢false (sym may))
     none-own (commands.SetConflict (Some p) name on) text of_row may stays own adds =

@@ -9,10 +9,13 @@ use crate::live::Live;
 use cr_base::{PaperNo, Query, Rule, Steps, UserNo};
 
 impl Live {
-    /// Checks whether a user, or an unauthenticated caller, may ask the query, or the first rule of its kind that it
-    /// breaks: each rule that `show`, `content_for`, `reviews_for`, `comments_for`, `response_for`, `may_have` and
-    /// `may_plan` tell, but not `NoPlan`, which memory finds. No rule is in the way of a search, nor of any other
-    /// query.
+    /// Checks whether a user, or an unauthenticated caller, may ask the query. No rule is in the way of a search, nor
+    /// of any query of another kind than those that rules name.
+    ///
+    /// # Errors
+    ///
+    /// The first broken rule of its kind: each that `show`, `content_for`, `reviews_for`, `comments_for`,
+    /// `response_for`, `may_have` and `may_plan` tell, except `NoPlan`, which takes memory to find.
     ///
     /// # Cost
     ///

@@ -1,5 +1,5 @@
-//! Single lists and fields of what a caller is told of a paper, beside what its facts tell, each read alone, for
-//! whoever asks for no more: what it costs is told at each, and none takes memory.
+//! Single lists and fields of what a caller is told of a paper, beside what its facts tell, each read by itself,
+//! for callers that need no more. Each says what it costs, and none takes memory.
 ghost use Rattle.std.specs.Prelude.{◌≡◌, ◌≤◌, [], Some, is_some, not, if◌then◌else◌};
 ghost use Rattle.cr_base.specs.Lists.{is_nothing};
 ghost use Rattle.cr_base.specs.Page.{gets_tags};

@@ -1,27 +1,18 @@
 //! All tables of a conference as one: a caller's phase, mode, role and relations, answers to queries, and what entries
-//! change. No view is made.
-//!
-//! cr_search_eval, cr_reports and cr_plans answer searches, reports and plans; a premise of `answer` (`caller`) leaves
-//! them out.
+//! change. No view is made. cr_search_eval, cr_reports and cr_plans answer searches, reports and plans.
 //!
 //! # Proved
 //!
-//! - Applying an entry that fits gives the tables of the longer history, without memory: `apply` (`after`),
-//!   `apply_all` (`after`).
-//! - Unless memory runs out, room is made before, in each table, for each paper and user that the group names: `room`
-//!   (`ok`, `keeps`), `apply` (`room`), `RoomFor`.
+//! - Applying an entry that fits gives the tables of the longer history, without memory once there is room: `apply`
+//!   (`after`, `room`), `room` (`ok`, `keeps`), `RoomFor`.
 //! - A query is answered by the reply that is due, or by the broken rule. Lack of memory is returned only if no rule
-//!   is broken: `answer` (`answered`), `show`, `me`, `accepted`.
-//! - The first rule that a query breaks, if any, is exact, without memory; `no_plan` is found with the plan: `may`.
-//! - A user's relations to a paper, whether it is accepted, and whether a query requires authentication are exact:
-//!   `standing`, `is_accepted`, `needs_login`.
-//! - Each field that a search term names is the page's or the answer's, without memory: `title_told`, `abstract_told`,
-//!   `authors_told`, `seats_told`, `tells_tag`, `decision_told`, `withdrawal_told`, `tells_version`, `label_told`,
-//!   `tells_review`, `tells_response`, `tells_comment`.
-//! - Facts of a paper for one caller are exact. They take at most four steps, and one for each author, seat, conflict
-//!   and invitation: `facts` (`facts`, `steps`).
-//! - A page takes at most 16 steps, and twice as many as any history with these tables has entries on the paper:
-//!   `show` (`steps`, `TakesFew`).
+//!   is broken: `answer` (`answered`). The first broken rule is exact, without memory; `no_plan` is found with the
+//!   plan: `may`.
+//! - Each field that a search term names is the page's or the answer's, without memory: `title_told`, `tells_tag` and
+//!   so on.
+//! - Facts of a paper for one caller take at most four steps, and one for each author, seat, conflict and invitation:
+//!   `facts` (`facts`, `steps`). A page takes at most 16 steps, and twice as many as any history with these tables has
+//!   entries on the paper: `show` (`steps`, `TakesFew`).
 #![tactic(auto)]
 
 mod accepted;

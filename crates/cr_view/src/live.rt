@@ -230,8 +230,8 @@ impl Live {
         }
     }
 
-    /// Nothing to run: a law, that the papers which have ties are there, those which have seats, and those to which
-    /// somebody is invited.
+    /// Proves, and does nothing else, that the papers which have ties are there, those which have seats, and those to
+    /// which somebody is invited.
     pub fn law_within(&self)
         ensures ties { AreWithin (paper_count self.now.tables.papers) self.now.tables.ties }
         ensures seats { IsTrue (are_within (paper_count self.now.tables.papers) self.now.tables.seats) }

@@ -1,4 +1,4 @@
-//! What a user is told of herself.
+//! What a user is told of themselves.
 ghost use Rattle.std.specs.Prelude.{◌≡◌, ◌++◌, [], IfOk, OnOk, Some, filter, map, not, unwrap_or};
 ghost use Rattle.std.specs.Option.{option_map};
 ghost use Rattle.cr_base.specs.Accounts.{account_at};

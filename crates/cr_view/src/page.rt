@@ -1,4 +1,4 @@
-//! Which keys of a paper's page a caller is told, by her standing at the paper.
+//! Which keys of a paper's page a caller is told, by their standing at the paper.
 ghost use Rattle.std.specs.Prelude.{◌≡◌, IfOk, Some};
 ghost use Rattle.std.specs.Option.{option_copied};
 ghost use Rattle.cr_base.specs.Lists.{listed};

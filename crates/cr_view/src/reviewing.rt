@@ -122,12 +122,12 @@ impl Live {
         Ok(Reviewers::from_vec(reviewers))
     }
 
-    /// Returns the name of who has this seat, if it is shown to with this standing at the seat's paper, unless the
-    /// reviewer has left it.
+    /// Returns the name of the user who has this seat, if a caller with this standing at the seat's paper may know
+    /// it, unless the reviewer has left it.
     ///
     /// # Cost
     ///
-    /// One read by number, if it is.
+    /// One read by number, if it is returned.
     pub fn reviewer_name(&self, by: &Standing, seat: &Tie<Seat>) -> Option<Short>
         ensures { result ≡ holder_name self.now.tables by.now seat.now }
     {

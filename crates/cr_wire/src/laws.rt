@@ -1,4 +1,4 @@
-//! Laws over the definitions alone.
+//! Theorems over the definitions.
 ghost use Rattle.std.specs.Prelude.{◌≡◌, ℕ, List, Option, Result, Some, length};
 ghost use Rattle.cr_http.specs.Requests.{End, RequestText};
 ghost use Rattle.cr_base.specs.declared.ask.Ask.{Ask};
@@ -11,14 +11,15 @@ ghost use Rattle.cr_wire.specs.declared.what.Wish.{Wish};
 
 use cr_http::law_one_reading;
 
-/// What a wish asks for follows from path and method: no body, query string or number, good or bad, changes it. So
-/// none changes whether authentication is required or whether the field Authorization is read.
+/// Proves that what a wish asks for follows from path and method: no body, query string or number, good or bad,
+/// changes it. So none changes whether authentication is required or whether the field Authorization is read.
 pub fn law_one_ask()
     ensures { (ask : Ask) (found : FoundPath) (told : Result (Option ℕ) BadCommandNumber) (r : RequestText)
         → ask_of (with_number ask found told r) ≡ Some ask }
 {}
 
-/// A text has one end, and spells one list of wishes, whose parts the text determines, except the timestamps.
+/// Proves that a text has one end, and spells one list of wishes, whose parts the text determines, except the
+/// timestamps.
 pub fn law_one_list_of_wishes()
     ensures { (bytes : List ℕ) (ws vs : List Wish) (one other : End)
         → Wishes bytes ws one → Wishes bytes vs other

@@ -1,4 +1,4 @@
-//! Laws over the definitions alone: which words are taken, and the job that each names, with no run.
+//! Theorems over the definitions: which words are taken, and the job that each names, with no run.
 ghost use Rattle.std.specs.Prelude.{◌≡◌, [], ◌∷◌, ◌++◌, Some, None, codes, true, false, List};
 ghost use Rattle.clap.specs.Words.{Text, fault_of};
 ghost use Rattle.clap.specs.declared.error.kind.ErrorKind.TheVariants.{ValueValidation};
@@ -8,18 +8,18 @@ ghost use Rattle.cr_words.specs.Words.{confd_words, is_plain_text, serve_word, s
 ghost use Rattle.cr_words.specs.Words.{store_word, user_word, store_words, user_words};
 ghost use Rattle.cr_words.specs.Words.{drill_word, drill_words};
 
-/// `pipe` and nothing else, after the program's name, whatever that is.
+/// Proves that `pipe` and nothing else, after the program's name, is taken, whatever that name is.
 pub fn law_pipe()
     ensures { (name : Text) → AreTakenFor (name ∷ codes "pipe" ∷ []) (pipe_job None) }
 {}
 
-/// `pipe --store FILE`, where FILE doesn't begin with a hyphen.
+/// Proves that `pipe --store FILE` is taken, if FILE doesn't begin with a hyphen.
 pub fn law_pipe_store()
     ensures { (name file : Text) → is_plain_text file ≡ true
         → AreTakenFor (name ∷ codes "pipe" ∷ store_words file) (pipe_job (Some file)) }
 {}
 
-/// `view --store FILE --user NAME`, in either order, where neither value begins with a hyphen.
+/// Proves that `view --store FILE --user NAME` is taken, in either order, if neither value begins with a hyphen.
 pub fn law_view()
     ensures store_first { (name file user : Text) → is_plain_text file ≡ true → is_plain_text user ≡ true
         → AreTakenFor (name ∷ codes "view" ∷ store_words file ++ user_words user) (view_job file user) }
@@ -27,7 +27,7 @@ pub fn law_view()
         → AreTakenFor (name ∷ codes "view" ∷ user_words user ++ store_words file) (view_job file user) }
 {}
 
-/// `pipe --store=FILE` and `view --store=FILE --user=NAME`, whatever the values are.
+/// Proves that `pipe --store=FILE` and `view --store=FILE --user=NAME` are taken, whatever the values are.
 pub fn law_attached()
     ensures pipe { (name file : Text)
         → AreTakenFor (name ∷ codes "pipe" ∷ store_word file ∷ []) (pipe_job (Some file)) }
@@ -35,8 +35,8 @@ pub fn law_attached()
         → AreTakenFor (name ∷ codes "view" ∷ store_word file ∷ user_word user ∷ []) (view_job file user) }
 {}
 
-/// `serve` with its four options as two words each, where no value begins with a hyphen, as no number does that is
-/// within its range. Where one isn't, the words are refused.
+/// Proves that `serve` is taken with its four options as two words each, if no value begins with a hyphen and the
+/// numbers are within their ranges. If one isn't, the words are refused.
 pub fn law_serve()
     ensures taken { (name listen workers connections file : Text) → is_plain_text listen ≡ true
         → is_plain_text file ≡ true
@@ -55,7 +55,8 @@ pub fn law_serve()
         ≡ ValueValidation ∷ [] }
 {}
 
-/// `serve` with a word for each of its options, written with `=`, whatever address and store are.
+/// Proves that `serve` is taken with one word for each of its options, written with `=`, whatever address and store
+/// are.
 pub fn law_serve_attached()
     ensures taken { (name listen workers connections file : Text) → are_workers workers ≡ true
         → are_connections connections ≡ true
@@ -70,8 +71,8 @@ pub fn law_serve_attached()
         ≡ ValueValidation ∷ [] }
 {}
 
-/// `drill` with its two options as two words each: numbers within their ranges, of which none begins with a hyphen.
-/// Where one isn't, the words are refused.
+/// Proves that `drill` is taken with its two options as two words each, if they are numbers within their ranges; none
+/// of these begins with a hyphen. If one isn't, the words are refused.
 pub fn law_drill()
     ensures taken { (name seed steps : Text) → is_seed seed ≡ true → are_steps steps ≡ true
         → AreTakenFor (name ∷ codes "drill" ∷ drill_words seed steps)
@@ -84,7 +85,7 @@ pub fn law_drill()
         → fault_of confd_words (name ∷ codes "drill" ∷ drill_words seed steps) ≡ ValueValidation ∷ [] }
 {}
 
-/// `drill` with a word for each of its options, written with `=`.
+/// Proves that `drill` is taken with one word for each of its options, written with `=`.
 pub fn law_drill_attached()
     ensures taken { (name seed steps : Text) → is_seed seed ≡ true → are_steps steps ≡ true
         → AreTakenFor (name ∷ codes "drill" ∷ drill_word seed steps)

@@ -37,7 +37,7 @@ streams_of tries left gives read_faults taken write_faults coming clock_faults =
   clock_faults = clock_faults;
 }
 
--- A connection that was served: how it ended, what its worker's pass knew ahead of it and behind it, the turns that it
+-- A connection that was served: how it ended, what its worker's pass knew before and after it, the turns that it
 -- took, and its source, sink and clock as they were given and as they came back.
 pub record ServedConnection (K I O C : Type 0) : Type 0 where
   pub ending : Ending
@@ -47,20 +47,20 @@ pub record ServedConnection (K I O C : Type 0) : Type 0 where
   pub ends : Served I O C
 
 module _ {K I O C : Type 0} (streams : Streams K I O C) where
-  -- what it worked on, as it was given
+  -- what a served connection worked on, as it was given
   abbrev pub world_before : ServedConnection K I O C → World (KnownPass K) I
   world_before c =
       world_of streams.read_faults streams.taken streams.write_faults streams.coming streams.clock_faults c.before
       c.ends.given.0 c.ends.given.1 c.ends.given.2
 
-  -- and as it came back
+  -- what a served connection worked on, as it came back
   abbrev pub world_after : ServedConnection K I O C → World (KnownPass K) I
   world_after c =
       world_of streams.read_faults streams.taken streams.write_faults streams.coming streams.clock_faults c.after
       c.ends.back.0 c.ends.back.1 c.ends.back.2
 
-  -- Its bytes are the answers to its wishes, each at its turn's place of the history, which goes on from what had been
-  -- seen. Its turns are those that its pass has more, each with its group at its place.
+  -- A connection's bytes are the answers to its wishes, each at its turn's place of the history, which goes on from
+  -- what had been seen. Its turns are those that its pass has more, each with its group at its place.
   pub record IsServed (c : ServedConnection K I O C) : Type 0 where
     pub connection : ConnectionInHistory streams.tries streams.left streams.gives c.ending 0 [] (world_before c)
         (world_after c)
@@ -78,8 +78,8 @@ module _ {K I O C : Type 0} (streams : Streams K I O C) where
     pub ends : IsPrefix c.after.seen last
 
   -- What workers did together who began with one pass and ended with one: they served these connections. The pass has
-  -- their turns more: each entry stands in as many groups more as they added it in, as many turns more are marked, and
-  -- in them the keeper's count of faults rose by what it rose in theirs.
+  -- their turns more: each entry is in as many groups more as they added it in, as many turns more are marked, and in
+  -- them the keeper's fault counter rose by what it rose in theirs.
   pub record ServeAll (connections : List (ServedConnection K I O C)) (p p' : KnownPass K) : Type 0 where
     pub each : Every (IsServedWithin p.seen p'.seen) connections
     pub seen : IsPrefix p.seen p'.seen

@@ -51,7 +51,7 @@ door_of left is_out faults log door =
 abbrev pub ends_of : {K I O C : Type 0} → List (ServedConnection K I O C) → List (Served I O C)
 ends_of {K} {I} {O} {C} connections = map (λ (c : ServedConnection K I O C). c.ends) connections
 
--- where the door tells them, the connections that it took back are more by these
+-- if the door tells them, the connections that it took back are more by these
 abbrev pub TellsMore : {I O C : Type 0} → List (Served I O C) → Option (DoorLog I O C) → Option (DoorLog I O C)
     → Type 0
 TellsMore ends None None = Unit {0}
@@ -59,7 +59,7 @@ TellsMore ends None (Some log') = ⊥
 TellsMore ends (Some log) None = ⊥
 TellsMore ends (Some log) (Some log') = log'.served ≡ log.served ++ ends
 
--- where the door tells it, this was its last answer
+-- if the door tells it, this was its last answer
 abbrev pub TellsLast : {I O C : Type 0} → DoorAnswer → Option (DoorLog I O C) → Type 0
 TellsLast answer None = Unit {0}
 TellsLast answer (Some log) = log.last ≡ Some answer
@@ -122,12 +122,12 @@ IsWorkedOn worked.OutOfMemory w =
     Works lasts.Done w.connections w.before w.after ⊎ Works lasts.Failed w.connections w.before w.after
     ⊎ ((w.connections ≡ []) × (w.after ≡ w.before))
 
--- one of them failed
+-- one of the doors failed
 abbrev pub OneFailed : {K I O C : Type 0} → List (DoorWork K I O C) → Type 0
 OneFailed [] = ⊥
 OneFailed (w ∷ ws) = Works lasts.Failed w.connections w.before w.after ⊎ OneFailed ws
 
--- where they ended by a door's failure, one of them failed
+-- if they ended by a door's failure, one of the doors failed
 abbrev pub HasFailedDoor : {K I O C : Type 0} → Worked → List (DoorWork K I O C) → Type 0
 HasFailedDoor worked.Done works = Unit {0}
 HasFailedDoor worked.DoorFailed works = OneFailed works
@@ -147,7 +147,7 @@ pub record ServesDoors {K I O C : Type 0} (streams : Streams K I O C) (ended : W
   pub cause : HasFailedDoor ended works
   pub served : ServeAll streams (connections_of works) p p'
 
--- the same of doors of which this is seen
+-- ServesDoors, of doors of which this is seen
 abbrev pub ServesSeen : {D K I O C : Type 0} → (D → SeenDoor I O C) → Streams K I O C → Worked → List D → List D
     → KnownPass K → KnownPass K → Type 0
 ServesSeen seen streams ended doors doors' p p' = ServesDoors streams ended (map seen doors) (map seen doors') p p'
@@ -156,8 +156,8 @@ ServesSeen seen streams ended doors doors' p p' = ServesDoors streams ended (map
 abbrev pub turns_for : ℕ → ℕ
 turns_for connections = 1048576 * connections
 
--- Doors that may be served behind so many turns: none has a connection out, and the turns of all that
--- they give stay within the lock's.
+-- Doors that may be served after so many turns: none has a connection out, and the turns of all that they give stay
+-- within the lock's.
 abbrev pub AreReady : {D : Type 0} → (D → ℕ) → (D → Bool) → List D → ℕ → Type 0
 AreReady left is_out doors turns =
     (turns + turns_for (total left doors) ≤ 2 ^ 40) × Every (λ door. is_out door ≡ false) doors

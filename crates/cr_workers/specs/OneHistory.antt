@@ -9,9 +9,9 @@ use Rattle.cr_workers.specs.Connections.{Streams, ServedConnection, IsServedWith
 use Rattle.cr_workers.specs.Doors.{SeenDoor, DoorWork, IsWorkedOn, HasFailedDoor, connections_of}
 use Rattle.cr_workers.specs.declared.worked.Worked.{Worked}
 
--- However the turns of the connections interleave: there is one history, which begins with the first one,
--- and each connection was served on beginnings of it. Each entry behind the first history stands in one
--- group of one turn of one connection.
+-- However the turns of the connections interleave, there is one history, which begins with the first one, and each
+-- connection was served on beginnings of it. Each entry after the first history is in one group of one turn of one
+-- connection.
 pub record ServesHistory {K I O C : Type 0} (streams : Streams K I O C) (ended : Worked)
     (doors doors' : List (SeenDoor I O C)) (b b' : Ledger) : Type 0 where
   -- the doors, each with the connections that were served by it

@@ -3,14 +3,14 @@
 //!
 //! # Proved
 //!
-//! - However turns interleave, there is one history, which begins with the book's and is the last book's (`begins`).
+//! - However turns interleave, there is one history, from the book's to the last book's (`begins`). Each further
+//!   entry is in exactly one group of one turn of one connection (`once`).
 //! - Each connection was served as `serve_connection` says, on histories that begin with the first and with which the
 //!   last begins. Its turns are those that its worker's pass has more, each with its group at its place (`served`,
 //!   `IsServed`, `IsServedWithin`).
-//! - Each entry after the first history is in exactly one group of one turn of one connection (`once`).
-//! - The keeper's counter rose by what it rose in these turns, so by as many as are marked at least, its maximum aside
-//!   (`counted`, `marked`).
-//! - The doors come back in order, each with the connections that it gave (`before`, `after`).
+//! - The keeper's counter rose by what it rose in these turns, so by as many as are marked at least, its maximum
+//!   aside (`counted`, `marked`). The doors come back in order, each with the connections that it gave (`before`,
+//!   `after`).
 //! - `Done`: each door gave its share, and no connection ended for lack of memory. `DoorFailed`: each did or failed,
 //!   and one failed. `OutOfMemory`: a door may not have been asked (`Worked`, `cause`, `each`).
 //! - Premises: at most 64 doors, one a share of the lock, and 2^20 connections, whose turns are at most 2^40.

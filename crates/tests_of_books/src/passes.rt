@@ -91,7 +91,7 @@ fn serve<R: Wait>(
     let _ = serve_connection(server, pass, source, sink, &mut clock);
 }
 
-/// Has one of two passes submit a paper, joins it with the other, and asks for the phase.
+/// Lets one of two passes submit a paper, joins it with the other, and asks for the phase.
 fn join_and_ask<R: Wait>(
     server: &Server<'_, R, PlainKeeper>,
     mut pass: Pass<Book<PlainKeeper>>,

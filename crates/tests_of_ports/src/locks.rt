@@ -131,7 +131,7 @@ fn act_often<R: Wait>(
     (pass, Ok(()))
 }
 
-/// Returns a pass's turns, in as many threads as it has shares, and then one pass. A thread that halves its pass
+/// Takes a pass's turns, in as many threads as it has shares, and returns one pass. A thread that halves its pass
 /// numbers the halves `2 * who` and `2 * who + 1`.
 #[cycle(crowd)]
 fn act_in_crowd<R: Threads + Wait + Sync>(
@@ -173,7 +173,7 @@ fn close_all(lock: HistoryLock<Acts>, pass: Pass<Acts>) -> Acts
     lock.close(pass)
 }
 
-/// Returns the turns of 64 threads, and then the value, with the turns that the joined pass counts.
+/// Takes the turns of 64 threads, and returns the value, with the turns that the joined pass counts.
 fn act_in_all<R: Threads + Wait + Sync>(
     rt: &R,
     lock: HistoryLock<Acts>,

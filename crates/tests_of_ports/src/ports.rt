@@ -155,7 +155,7 @@ fn at(seconds: u64) -> Moment {
     Moment::new(seconds).unwrap_or(Moment::epoch())
 }
 
-/// Returns a clock asked three times.
+/// Reads a clock three times.
 fn moments<C: Clock>(clock: &mut C) -> [ClockStep; 3] {
     [clock.now(), clock.now(), clock.now()]
 }
@@ -266,7 +266,7 @@ fn second<K: Keeper>(keeper: &mut K) -> Result<u64, KeeperError> {
     Ok(keeper.row(1)?.kind)
 }
 
-/// Returns its second append fails, and so do the second and the third of its other calls.
+/// Creates a keeper whose second append fails, and the second and the third of its other calls.
 fn scripted_keeper(alloc: Global) -> Result<MemKeeper, AllocError> {
     let failing_appends = [1].as_slice().to_vec(alloc)?;
     let failing_reads = [1, 2].as_slice().to_vec(alloc)?;
@@ -326,7 +326,7 @@ fn kept_at<S: Shelf>(shelf: &mut S) -> [Result<u64, KeeperError>; 5] {
     ]
 }
 
-/// Returns its third open fails, and so does the second append of each keeper.
+/// Creates a shelf whose third open fails, and the second append of each keeper.
 fn scripted_shelf(alloc: Global) -> Result<MemShelf, AllocError> {
     let failing_opens = [2].as_slice().to_vec(alloc)?;
     let failing_appends = [1].as_slice().to_vec(alloc)?;

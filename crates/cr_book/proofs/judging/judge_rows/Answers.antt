@@ -2,7 +2,7 @@ use Rattle.std.proofs.Common.{◌∙◌, ap, sym, length, length-append, arith, 
 use Rattle.cr_base.specs.declared.bulk.Broken.{Broken}
 use Rattle.cr_base.specs.History.{History}
 use Rattle.cr_judge.specs.Rows.{group_or_rule}
-use Rattle.cr_book.specs.BulkRebuilding.{row_judged_behind}
+use Rattle.cr_book.specs.BulkRows.{row_judged_behind}
 use Rattle.cr_book.proofs.JudgingLaws.{index-more, index-broken, index-all, next-earlier}
 use Rattle.cr_book.proofs.judging.judge_rows.Goals as goal
 

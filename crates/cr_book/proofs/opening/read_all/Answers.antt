@@ -9,10 +9,10 @@ pub returns-in-Err-finish-clause-bad : goal.returns-in-Err-finish-clause-bad
 returns-in-Err-finish-clause-bad g c =
     let all =
     subst (λ (o : Option (List Row)). IfSome o
-    (λ rows. rows_of c.in-Ok-read_rows.reading.log ++ c.in-Ok-read_rows.reading.pending ≡ rows))
+    (λ rows. rows_of c.in-Ok-read_rows.reading.log ++ rows_of c.in-Ok-read_rows.reading.begun ≡ rows))
     c.in-Ok.ensures.same c.in-Ok-read_rows.ensures.spelled in
     cut-store (g.K.Keeper.rows c.args.keeper.now) c.in-Ok.count c.saturating_sub.result c.in-Ok-read_rows.reading.log
-    c.in-Ok-read_rows.reading.pending c.in-Err-finish.last c.refusal.result
+    c.in-Ok-read_rows.reading.begun c.in-Err-finish.last c.refusal.result
     c.in-Ok.ensures.told c.saturating_sub.ensures all c.in-Err-finish.ensures.cut c.refusal.ensures
 
 pub returns-in-Err-read_rows-clause-still : goal.returns-in-Err-read_rows-clause-still

@@ -27,7 +27,7 @@ returns-in-Err-clause-cause g c =
 pub returns-in-Err-read-clause-bad : goal.returns-in-Err-read-clause-bad
 returns-in-Err-read-clause-bad g c =
     bad-row (g.K.Keeper.rows c.args.keeper.now) (g.K.Keeper.rows c.loop-i.keeper) c.loop-i.i c.in-Ok.row
-    (rows_of c.loop-i.reading.log ++ c.loop-i.reading.pending) c.in-Err-read.error c.refusal.result
+    (rows_of c.loop-i.reading.log ++ rows_of c.loop-i.reading.begun) c.in-Err-read.error c.refusal.result
     c.loop-i.invariant.same c.loop-i.invariant.read c.in-Ok.ensures.told c.in-Err-read.ensures.refused c.refusal.ensures
 
 pub loop-i-preserved : goal.loop-i-preserved
@@ -41,13 +41,13 @@ loop-i-preserved g c =
       steady = answered-steady (g.K.Keeper.faults c.loop-i.keeper) (g.K.Keeper.faults c.row.new.self) (Ok c.in-Ok.row)
           c.in-Ok.row c.in-Ok.ensures.cause refl ∙ c.loop-i.invariant.steady;
       read = read-more (g.K.Keeper.rows c.args.keeper.now) (g.K.Keeper.rows c.loop-i.keeper) c.loop-i.i c.in-Ok.row
-          (rows_of c.loop-i.reading.log ++ c.loop-i.reading.pending)
-          (rows_of c.in-Ok-read.after.log ++ c.in-Ok-read.after.pending)
+          (rows_of c.loop-i.reading.log ++ rows_of c.loop-i.reading.begun)
+          (rows_of c.in-Ok-read.after.log ++ rows_of c.in-Ok-read.after.begun)
           c.loop-i.invariant.same c.loop-i.invariant.read c.in-Ok.ensures.told c.in-Ok-read.ensures.ok;
     }
 
 pub returns-clause-spelled : goal.returns-clause-spelled
 returns-clause-spelled g c =
-    all-read (g.K.Keeper.rows c.args.keeper.now) (rows_of c.loop-i.reading.log ++ c.loop-i.reading.pending) c.loop-i.i
-    c.args.count c.requires c.loop-i.invariant.read
+    all-read (g.K.Keeper.rows c.args.keeper.now) (rows_of c.loop-i.reading.log ++ rows_of c.loop-i.reading.begun)
+    c.loop-i.i c.args.count c.requires c.loop-i.invariant.read
     (let end = c.loop-i.auto.i-end in let test = c.loop-i-test.false in omega (arith, end, test))

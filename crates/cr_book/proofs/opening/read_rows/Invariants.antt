@@ -10,5 +10,5 @@ invariant-loop-i g l =
       alike : g.K.Keeper.kind l.keeper ≡ g.K.Keeper.kind l.fn.keeper;
       still : IsTrue (g.K.Keeper.tells_stops l.fn.keeper) → l.keeper ≡ l.fn.keeper;
       steady : g.K.Keeper.faults l.keeper ≡ g.K.Keeper.faults l.fn.keeper;
-      read : IfSome (rows l.fn.keeper) (λ told. rows_of l.reading.log ++ l.reading.pending ≡ take l.i told);
+      read : IfSome (rows l.fn.keeper) (λ told. rows_of l.reading.log ++ rows_of l.reading.begun ≡ take l.i told);
     }

@@ -1,11 +1,12 @@
 use Rattle.std.proofs.Common.{ℕ, Bool, Option, Ok, Err, ◌∙◌, ap, sym, refl}
 use Rattle.std.specs.Prelude.{is_some, unwrap_or}
 use Rattle.std.proofs.lemmas.Bool.{true≢false}
+use Rattle.cr_base.specs.declared.entry.Entry.TheVariants as entries
+use Rattle.cr_base.specs.Drawn.{alone}
 use Rattle.cr_base.specs.declared.entry.Stamp.{Stamp}
 use Rattle.cr_base.specs.declared.target.Target.{Target}
 use Rattle.cr_base.specs.declared.words.Role.{Role}
 use Rattle.cr_base.specs.Checks.{NamedPaper, conflict_checks}
-use Rattle.cr_base.specs.Drawn.{conflict_drawn}
 use Rattle.cr_base.specs.Tables.{tables_from}
 use Rattle.cr_base.specs.Ties.{ties_from}
 use Rattle.cr_conflicts.specs.Targets.{target_in, target_of}
@@ -41,9 +42,9 @@ returns c =
     let stamp : Stamp = c.args.stamp.now in
     let named = c.named_paper-named.result in
     let seen = c.tie_table.result.now.ties in
-    ap (λ (o : Option ℕ). Ok (conflict_drawn stamp (unwrap_or o 0) c.held-user.result c.args.on))
+    ap (λ (o : Option ℕ). Ok (alone stamp (entries.Conflict (unwrap_or o 0) c.held-user.result c.args.on)))
     (sym c.held-paper.ensures)
-    ∙ ap (λ (o : Option ℕ). Ok (conflict_drawn stamp (unwrap_or named.paper 0) (unwrap_or o 0) c.args.on))
+    ∙ ap (λ (o : Option ℕ). Ok (alone stamp (entries.Conflict (unwrap_or named.paper 0) (unwrap_or o 0) c.args.on)))
     (sym c.held-user.ensures)
     ∙ conflict-drawn t stamp c.args.paper.now c.args.user.now named c.named_paper-named.ensures
     c.target_of-target.result

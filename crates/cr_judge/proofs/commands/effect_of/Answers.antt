@@ -1,13 +1,10 @@
-use Rattle.std.proofs.Common.{◌∙◌, sym}
-use Rattle.cr_base.proofs.AccountLaws.{judge_by_role-register}
-use Rattle.cr_judge.proofs.JudgedLaws.{call-told}
+use Rattle.cr_judge.proofs.JudgedLaws.{call-told, registration-told}
 use Rattle.cr_judge.proofs.commands.effect_of.Goals as goal
 
 pub returns-in-Register : goal.returns-in-Register
 returns-in-Register c =
+    registration-told c.args.live.now.tables c.args.call c.in-Register.name c.in-Register.digest _ c.in-Register.is
     c.registration.ensures
-    ∙ sym (judge_by_role-register c.args.live.now.tables c.args.call c.in-Register.name c.in-Register.digest
-    c.in-Register.is)
 
 pub returns-in_default : goal.returns-in_default
 returns-in_default c =

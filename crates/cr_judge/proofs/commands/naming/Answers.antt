@@ -7,8 +7,7 @@ use Rattle.cr_judge.proofs.commands.naming.Goals as goal
 
 pub held-user-requires : goal.held-user-requires
 held-user-requires c =
-    is-named c.args.live.now.tables c.args.stamp.now c.args.name.now c.args.role c.user_of-user.result
-    c.user_of-user.ensures
+    is-named c.args.live.now.tables c.args.stamp.now c.args.role c.args.user.now
     c.standing-by.result c.standing-by.ensures c.account_table.result.now.accounts c.account_table.ensures (Ok tt)
     c.in_ok-judge_name.ensures refl
 
@@ -17,8 +16,8 @@ returns c =
     let t = c.args.live.now.tables in
     let stamp : Stamp = c.args.stamp.now in
     one-entry t.accounts stamp (entries.Named c.held-user.result c.args.role) c.alone.result _ c.alone.ensures
-    (naming-drawn t stamp c.args.name.now c.args.role c.user_of-user.result c.user_of-user.ensures
-    c.standing-by.result c.standing-by.ensures c.account_table.result.now.accounts c.account_table.ensures (Ok tt)
+    (naming-drawn t stamp c.args.role c.args.user.now c.standing-by.result c.standing-by.ensures
+    c.account_table.result.now.accounts c.account_table.ensures (Ok tt)
     c.in_ok-judge_name.ensures refl
     c.held-user.result c.held-user.ensures)
 
@@ -26,6 +25,6 @@ pub returns-in_err-judge_name : goal.returns-in_err-judge_name
 returns-in_err-judge_name c =
     let t = c.args.live.now.tables in
     passed-up t.accounts c.from_residual.result c.in_err-judge_name.field-0.0 _ c.from_residual.ensures.1
-    (naming-made t c.args.stamp.now c.args.name.now c.args.role c.user_of-user.result c.user_of-user.ensures
-    c.standing-by.result c.standing-by.ensures c.account_table.result.now.accounts c.account_table.ensures
+    (naming-made t c.args.stamp.now c.args.role c.args.user.now c.standing-by.result c.standing-by.ensures
+    c.account_table.result.now.accounts c.account_table.ensures
     (Err c.in_err-judge_name.field-0.0) c.in_err-judge_name.ensures)

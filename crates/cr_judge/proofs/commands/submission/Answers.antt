@@ -1,9 +1,8 @@
-use Rattle.std.proofs.Common.{ℕ, Bool, List, Option, Some, ◌+◌, ◌∙◌, ap}
+use Rattle.std.proofs.Common.{Bool, Some, ◌+◌, ◌∙◌, ap}
 use Rattle.std.specs.Prelude.{not}
 use Rattle.cr_base.specs.declared.entry.Stamp.{Stamp}
 use Rattle.cr_base.specs.Checks.{judged, submit_checks}
 use Rattle.cr_base.specs.Papers.{own_count, paper_count}
-use Rattle.cr_judge.specs.Targets.{coauthors_of, users_at}
 use Rattle.cr_judge.proofs.JudgedLaws.{passed-up}
 use Rattle.cr_judge.proofs.TargetLaws.{are-found, submission-drawn, submission-refused}
 use Rattle.cr_judge.proofs.commands.submission.Goals as goal
@@ -13,10 +12,7 @@ unwrap-requires c =
     let t = c.args.live.now.tables in
     let stamp : Stamp = c.args.stamp.now in
     let papers = c.paper_table.result.now.papers in
-    are-found t stamp (users_at t.accounts c.args.authors.now) c.args.title c.args.abstract_ c.coauthors-users.result
-    (c.coauthors-users.ensures
-    ∙ ap (λ (names : List (Option (List ℕ))). coauthors_of stamp.maker (users_at t.accounts names))
-    c.as_slice.ensures)
+    are-found t stamp c.args.title c.args.abstract_ c.args.authors c.coauthors-users.result c.coauthors-users.ensures
     c.standing-by.result (paper_count papers) (own_count papers (Some stamp.maker)) c.is_late-late.result _
     c.in_ok-paper.paper
     (c.in_ok-paper.ensures
@@ -29,11 +25,8 @@ returns c =
     let t = c.args.live.now.tables in
     let stamp : Stamp = c.args.stamp.now in
     let papers = c.paper_table.result.now.papers in
-    submission-drawn t stamp (users_at t.accounts c.args.authors.now) c.args.title c.args.abstract_
-    c.coauthors-users.result
-    (c.coauthors-users.ensures
-    ∙ ap (λ (names : List (Option (List ℕ))). coauthors_of stamp.maker (users_at t.accounts names))
-    c.as_slice.ensures)
+    submission-drawn t stamp c.args.title c.args.abstract_ c.args.authors
+    c.coauthors-users.result c.coauthors-users.ensures
     c.standing-by.result c.standing-by.ensures papers c.paper_table.ensures c.is_late-late.result c.is_late-late.ensures
     c.in_ok-paper.paper
     (c.in_ok-paper.ensures
@@ -48,11 +41,8 @@ returns-in_err-paper c =
     let stamp : Stamp = c.args.stamp.now in
     let papers = c.paper_table.result.now.papers in
     passed-up t.accounts c.from_residual.result c.in_err-paper.field-0.0 _ c.from_residual.ensures.1
-    (submission-refused t stamp (users_at t.accounts c.args.authors.now) c.args.title c.args.abstract_
-    c.coauthors-users.result
-    (c.coauthors-users.ensures
-    ∙ ap (λ (names : List (Option (List ℕ))). coauthors_of stamp.maker (users_at t.accounts names))
-    c.as_slice.ensures)
+    (submission-refused t stamp c.args.title c.args.abstract_ c.args.authors
+    c.coauthors-users.result c.coauthors-users.ensures
     c.standing-by.result c.standing-by.ensures papers c.paper_table.ensures c.is_late-late.result c.is_late-late.ensures
     c.in_err-paper.field-0.0
     (c.in_err-paper.ensures

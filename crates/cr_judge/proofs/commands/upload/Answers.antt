@@ -1,11 +1,11 @@
 use Rattle.std.proofs.Common.{ℕ, Bool, Option, Some, Ok, Err, ◌∙◌, ap, length, sym, refl}
 use Rattle.std.specs.Prelude.{unwrap_or}
+use Rattle.cr_base.specs.Drawn.{alone}
 use Rattle.cr_base.specs.declared.entry.Entry.TheVariants as entries
 use Rattle.cr_base.specs.declared.entry.Stamp.{Stamp}
 use Rattle.cr_judge.proofs.JudgedLaws.{one-entry, passed-up}
 use Rattle.cr_judge.proofs.CommandLaws.{upload-made}
 use Rattle.cr_base.specs.Checks.{NamedPaper, upload_checks}
-use Rattle.cr_base.specs.Drawn.{upload_drawn}
 use Rattle.cr_base.specs.Papers.{own_bytes}
 use Rattle.cr_judge.proofs.NamedLaws.{is-told}
 use Rattle.cr_judge.proofs.commands.upload.Goals as goal
@@ -24,7 +24,8 @@ returns c =
     let version : ℕ = c.in_ok-version.version in
     one-entry t.accounts stamp (entries.Uploaded c.held-paper.result version c.args.content) c.alone.result _
     c.alone.ensures
-    (ap (λ (o : Option ℕ). Ok (upload_drawn stamp (unwrap_or o 0) version c.args.content)) (sym c.held-paper.ensures)
+    (ap (λ (o : Option ℕ). Ok (alone stamp (entries.Uploaded (unwrap_or o 0) version c.args.content))) (sym
+    c.held-paper.ensures)
     ∙ upload-made t stamp c.args.paper.now c.standing-by.result c.standing-by.ensures c.paper_table.result.now.papers
     c.paper_table.ensures
     c.is_late-late.result c.is_late-late.ensures c.args.content (length c.as_slice.result.now)

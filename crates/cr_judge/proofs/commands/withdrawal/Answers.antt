@@ -1,11 +1,11 @@
 use Rattle.std.proofs.Common.{ℕ, Bool, Option, Ok, Err, ◌∙◌, ap, sym, refl}
 use Rattle.std.specs.Prelude.{unwrap_or}
+use Rattle.cr_base.specs.Drawn.{alone}
 use Rattle.cr_base.specs.declared.entry.Entry.TheVariants as entries
 use Rattle.cr_base.specs.declared.entry.Stamp.{Stamp}
 use Rattle.cr_judge.proofs.JudgedLaws.{one-entry, passed-up}
 use Rattle.cr_judge.proofs.CommandLaws.{revision-drawn}
 use Rattle.cr_base.specs.Checks.{NamedPaper, revise_checks}
-use Rattle.cr_base.specs.Drawn.{withdrawal_drawn}
 use Rattle.cr_judge.proofs.NamedLaws.{is-told}
 use Rattle.cr_judge.proofs.commands.withdrawal.Goals as goal
 
@@ -20,10 +20,10 @@ returns c =
     let t = c.args.live.now.tables in
     let stamp : Stamp = c.args.stamp.now in
     one-entry t.accounts stamp (entries.Withdrawn c.held-paper.result) c.alone.result _ c.alone.ensures
-    (ap (λ (o : Option ℕ). Ok (withdrawal_drawn stamp (unwrap_or o 0))) (sym c.held-paper.ensures)
+    (ap (λ (o : Option ℕ). Ok (alone stamp (entries.Withdrawn (unwrap_or o 0)))) (sym c.held-paper.ensures)
     ∙ revision-drawn t stamp c.args.paper.now c.standing-by.result c.standing-by.ensures c.paper_table.result.now.papers
     c.paper_table.ensures
-    c.is_late-late.result c.is_late-late.ensures (λ (p : ℕ). withdrawal_drawn stamp p) (Ok tt)
+    c.is_late-late.result c.is_late-late.ensures (λ (p : ℕ). alone stamp (entries.Withdrawn p)) (Ok tt)
     c.in_ok-judge_withdraw.ensures)
 
 pub returns-in_err-judge_withdraw : goal.returns-in_err-judge_withdraw
@@ -33,5 +33,5 @@ returns-in_err-judge_withdraw c =
     passed-up t.accounts c.from_residual.result c.in_err-judge_withdraw.field-0.0 _ c.from_residual.ensures.1
     (revision-drawn t stamp c.args.paper.now c.standing-by.result c.standing-by.ensures c.paper_table.result.now.papers
     c.paper_table.ensures
-    c.is_late-late.result c.is_late-late.ensures (λ (p : ℕ). withdrawal_drawn stamp p)
+    c.is_late-late.result c.is_late-late.ensures (λ (p : ℕ). alone stamp (entries.Withdrawn p))
     (Err c.in_err-judge_withdraw.field-0.0) c.in_err-judge_withdraw.ensures)

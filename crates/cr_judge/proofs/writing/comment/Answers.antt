@@ -1,9 +1,9 @@
 use Rattle.std.proofs.Common.{ℕ, Bool, Option, Some, Ok, Err, ◌∙◌, ap, sym, refl}
 use Rattle.std.specs.Prelude.{unwrap_or}
+use Rattle.cr_base.specs.Drawn.{alone}
 use Rattle.cr_base.specs.declared.entry.Entry.TheVariants as entries
 use Rattle.cr_base.specs.declared.entry.Stamp.{Stamp}
 use Rattle.cr_base.specs.Checks.{NamedPaper, comment_checks}
-use Rattle.cr_base.specs.Drawn.{comment_drawn}
 use Rattle.cr_base.specs.Talk.{own_comments_in}
 use Rattle.cr_judge.proofs.JudgedLaws.{one-entry, passed-up}
 use Rattle.cr_judge.proofs.NamedLaws.{is-there}
@@ -25,7 +25,8 @@ returns c =
     let n : ℕ = c.in_ok-n.n in
     one-entry t.accounts stamp (entries.Commented c.held-paper.result n c.ordinal_of-ordinal.result c.args.text)
     c.alone.result _ c.alone.ensures
-    (ap (λ (o : Option ℕ). Ok (comment_drawn stamp (unwrap_or o 0) n c.ordinal_of-ordinal.result c.args.text))
+    (ap (λ (o : Option ℕ). Ok (alone stamp (entries.Commented (unwrap_or o 0) n c.ordinal_of-ordinal.result
+    c.args.text)))
     (sym c.held-paper.ensures)
     ∙ comment-drawn t stamp c.args.paper.now named c.named_paper-named.ensures c.ordinal_of-ordinal.result
     c.ordinal_of-ordinal.ensures

@@ -1,9 +1,9 @@
 use Rattle.std.proofs.Common.{ℕ, Bool, Option, Ok, Err, ◌∙◌, ap, sym, refl}
 use Rattle.std.specs.Prelude.{is_some, unwrap_or}
+use Rattle.cr_base.specs.Drawn.{alone}
 use Rattle.cr_base.specs.declared.entry.Entry.TheVariants as entries
 use Rattle.cr_base.specs.declared.entry.Stamp.{Stamp}
 use Rattle.cr_base.specs.Checks.{NamedPaper, respond_checks}
-use Rattle.cr_base.specs.Drawn.{response_drawn}
 use Rattle.cr_base.specs.Talk.{response_in}
 use Rattle.cr_judge.proofs.JudgedLaws.{one-entry, passed-up}
 use Rattle.cr_judge.proofs.NamedLaws.{is-there}
@@ -22,7 +22,7 @@ returns c =
     let t = c.args.live.now.tables in
     let stamp : Stamp = c.args.stamp.now in
     one-entry t.accounts stamp (entries.Responded c.held-paper.result c.args.text) c.alone.result _ c.alone.ensures
-    (ap (λ (o : Option ℕ). Ok (response_drawn stamp (unwrap_or o 0) c.args.text)) (sym c.held-paper.ensures)
+    (ap (λ (o : Option ℕ). Ok (alone stamp (entries.Responded (unwrap_or o 0) c.args.text))) (sym c.held-paper.ensures)
     ∙ response-drawn t stamp c.args.paper.now c.named_paper-named.result c.named_paper-named.ensures
     c.args.text c.is_late-late.result c.is_late-late.ensures c.comment_table.result.now.talk c.comment_table.ensures
     (Ok tt) c.in_ok-judge_respond.ensures)

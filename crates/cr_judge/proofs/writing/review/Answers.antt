@@ -1,9 +1,9 @@
 use Rattle.std.proofs.Common.{ℕ, Bool, Option, Ok, Err, ◌∙◌, ap, sym, refl}
 use Rattle.std.specs.Prelude.{unwrap_or}
+use Rattle.cr_base.specs.Drawn.{alone}
 use Rattle.cr_base.specs.declared.entry.Entry.TheVariants as entries
 use Rattle.cr_base.specs.declared.entry.Stamp.{Stamp}
 use Rattle.cr_base.specs.Checks.{NamedPaper, review_checks}
-use Rattle.cr_base.specs.Drawn.{review_drawn}
 use Rattle.cr_judge.proofs.JudgedLaws.{one-entry, passed-up}
 use Rattle.cr_judge.proofs.NamedLaws.{is-there}
 use Rattle.cr_judge.proofs.WritingLaws.{is-seated, review-drawn}
@@ -30,9 +30,11 @@ returns c =
     let version : ℕ = c.in_ok-version.version in
     one-entry t.accounts stamp (entries.Reviewed c.held-paper.result c.held-ordinal.result version c.args.form)
     c.alone.result _ c.alone.ensures
-    (ap (λ (o : Option ℕ). Ok (review_drawn stamp (unwrap_or o 0) c.held-ordinal.result version c.args.form))
+    (ap (λ (o : Option ℕ). Ok (alone stamp (entries.Reviewed (unwrap_or o 0) c.held-ordinal.result version
+    c.args.form)))
     (sym c.held-paper.ensures)
-    ∙ ap (λ (o : Option ℕ). Ok (review_drawn stamp (unwrap_or named.paper 0) (unwrap_or o 0) version c.args.form))
+    ∙ ap (λ (o : Option ℕ). Ok (alone stamp (entries.Reviewed (unwrap_or named.paper 0) (unwrap_or o 0) version
+    c.args.form)))
     (sym c.held-ordinal.ensures)
     ∙ review-drawn t stamp c.args.paper.now named c.named_paper-named.ensures c.ordinal_of-ordinal.result
     c.ordinal_of-ordinal.ensures

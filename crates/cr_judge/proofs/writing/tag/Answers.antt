@@ -1,9 +1,11 @@
 use Rattle.std.proofs.Common.{ℕ, Bool, Option, Ok, Err, ◌∙◌, ap, sym, refl}
 use Rattle.std.specs.Prelude.{unwrap_or}
+use Rattle.cr_base.specs.declared.entry.Entry.TheVariants as entries
+use Rattle.cr_base.specs.Drawn.{alone}
 use Rattle.cr_base.specs.declared.entry.Stamp.{Stamp}
 use Rattle.cr_base.specs.declared.standing.Standing.{Standing}
 use Rattle.cr_base.specs.Checks.{NamedPaper, tag_checks}
-use Rattle.cr_base.specs.Drawn.{Drawn, tag_drawn}
+use Rattle.cr_base.specs.Drawn.{Drawn}
 use Rattle.cr_base.specs.Tables.{tables_from}
 use Rattle.cr_base.specs.TagTexts.{is_for_chairs}
 use Rattle.cr_judge.proofs.JudgedLaws.{entry-passed-up}
@@ -21,11 +23,12 @@ returns c =
     let t = tables_from c.args.live.now.tables c.args.earlier.now in
     let stamp : Stamp = c.args.stamp.now in
     let named = c.named_paper-named.result in
-    ap (λ (o : Option ℕ). Ok (tag_drawn stamp (unwrap_or o 0) c.args.tag c.args.on)) (sym c.held-paper.ensures)
+    ap (λ (o : Option ℕ). Ok (alone stamp (entries.Tagged (unwrap_or o 0) c.args.tag c.args.on))) (sym
+    c.held-paper.ensures)
     ∙ paper-drawn t stamp.maker c.args.paper.now named c.named_paper-named.ensures
     (λ (s : Standing) (p : NamedPaper). tag_checks s p (is_for_chairs c.args.tag))
     (λ (s : Standing) (w : Bool) (x : Drawn). refl)
-    (λ (p : ℕ). tag_drawn stamp p c.args.tag c.args.on) (Ok tt) c.in_ok-judge_tag.ensures
+    (λ (p : ℕ). alone stamp (entries.Tagged p c.args.tag c.args.on)) (Ok tt) c.in_ok-judge_tag.ensures
 
 pub returns-in_err-judge_tag : goal.returns-in_err-judge_tag
 returns-in_err-judge_tag c =
@@ -37,4 +40,5 @@ returns-in_err-judge_tag c =
     (paper-drawn t stamp.maker c.args.paper.now named c.named_paper-named.ensures
     (λ (s : Standing) (p : NamedPaper). tag_checks s p (is_for_chairs c.args.tag))
     (λ (s : Standing) (w : Bool) (x : Drawn). refl)
-    (λ (p : ℕ). tag_drawn stamp p c.args.tag c.args.on) (Err c.in_err-judge_tag.field-0.0) c.in_err-judge_tag.ensures)
+    (λ (p : ℕ). alone stamp (entries.Tagged p c.args.tag c.args.on)) (Err c.in_err-judge_tag.field-0.0)
+    c.in_err-judge_tag.ensures)

@@ -1,0 +1,5 @@
+use Rattle.cr_book.proofs.DueLaws.{taken-when}
+use Rattle.cr_book.proofs.beginnings.chair_behind.Goals as goal
+
+pub returns : goal.returns
+returns c = taken-when c.is_chair_of-stands.result c.args.next c.when.result c.is_chair_of-stands.ensures c.when.ensures
