@@ -13,32 +13,33 @@ use Rattle.cr_lock.specs.declared.pass_state.Turn.{Turn}
 use Rattle.cr_lock.specs.declared.pass_state.Activity.{Activity}
 use Rattle.cr_lock.specs.declared.pass_state.Activity.TheVariants.{Idle, Waiting, Holding, Joined}
 use Rattle.cr_lock.specs.declared.pass_state.PassState.{PassState}
-use Rattle.cr_lock.specs.Counts.{last_count, within, total}
+use Rattle.cr_lock.specs.Counts.{last_count, within, total, Among}
 use Rattle.cr_lock.specs.Turns.{groups_with, marks}
 use Rattle.cr_lock.specs.PassStates.{first_state, spent_state}
-use Rattle.cr_lock.specs.Rule.{holds_ticket, has_value, FitsActivity, FitsLock, IsOutside, LeftHome, Risen, Home, Away}
-use Rattle.cr_lock.specs.Rule.{OneHistory}
+use Rattle.cr_lock.specs.Rule.{holds_ticket, has_value, FitsActivity, FitsLock, IsOutside, LeftHome, IsMade, Risen, Home}
+use Rattle.cr_lock.specs.Rule.{Away, OneHistory}
 use Rattle.cr_lock.specs.Steps.{Drew}
 use Rattle.cr_lock.proofs.Prefixes.{prefix_self, prefix_trans}
+use Rattle.cr_lock.proofs.Reaching.{any_at, any_else, set_at, reached_on}
 use Rattle.cr_lock.proofs.Sums.{total_set, total_two, within_join, within_out}
 
 -- what a pass knows stays so where the history goes on, unless it has the value
-fits_activity : {T E Root : Type 0} (start : ℕ) (log more : List E) (serving next : ℕ)
-    (risen risen' : ℕ → Root → Type 0) (v : PassState T E Root) (activity : Activity E Root)
+fits_activity : {T E : Type 0} (start : ℕ) (log more : List E) (serving next : ℕ) (risen risen' : T → Type 0)
+    (v : PassState T E) (activity : Activity T E)
     → IsPrefix log more
-    → ((t n : ℕ) (origin : Root) → activity ≡ Holding t n origin → (t ≡ serving) × (v.seen ≡ log) × risen n origin
-    → (t ≡ next) × (v.seen ≡ more) × risen' n origin)
+    → ((t : ℕ) (x : T) → activity ≡ Holding t x → (t ≡ serving) × (v.seen ≡ log) × risen x
+    → (t ≡ next) × (v.seen ≡ more) × risen' x)
     → FitsActivity start log serving risen v activity → FitsActivity start more next risen' v activity
 fits_activity start log more serving next risen risen' v Idle p on f = tt
 fits_activity start log more serving next risen risen' v (Waiting u) p on f = tt
-fits_activity start log more serving next risen risen' v (Holding u n origin) p on f = on u n origin refl f
+fits_activity start log more serving next risen risen' v (Holding u x) p on f = on u x refl f
 fits_activity start log more serving next risen risen' v (Joined a b m o) p on f =
     (prefix_trans a log more f.0 p, prefix_trans b log more f.1 p, f.2)
 
-pub fits_on : {T E Root : Type 0} (start : ℕ) (log more : List E) (serving next : ℕ) (risen risen' : ℕ → Root → Type 0)
-    (v : PassState T E Root) → IsPrefix log more
-    → ((t n : ℕ) (origin : Root) → v.activity ≡ Holding t n origin → (t ≡ serving) × (v.seen ≡ log) × risen n origin
-    → (t ≡ next) × (v.seen ≡ more) × risen' n origin)
+pub fits_on : {T E : Type 0} (start : ℕ) (log more : List E) (serving next : ℕ) (risen risen' : T → Type 0)
+    (v : PassState T E) → IsPrefix log more
+    → ((t : ℕ) (x : T) → v.activity ≡ Holding t x → (t ≡ serving) × (v.seen ≡ log) × risen x
+    → (t ≡ next) × (v.seen ≡ more) × risen' x)
     → FitsLock start log serving risen v → FitsLock start more next risen' v
 fits_on start log more serving next risen risen' v p on f = record {
   seen = prefix_trans v.seen log more f.seen p;
@@ -49,9 +50,16 @@ fits_on start log more serving next risen risen' v p on f = record {
   alive = f.alive;
 }
 
+-- where a state becomes another with its turns, each turn that was made still is
+pub made_set : {T E : Type 0} (vs : List (PassState T E)) (id : ℕ) (v w : PassState T E) (t : Turn T E)
+    → get_elem? vs id ≡ some v → (Among v.mine t → Among w.mine t) → IsMade vs t → IsMade (set vs id w) t
+made_set {T} {E} vs id v w t at on a =
+    ⊎_elim (λ mine. any_at (λ (u : PassState T E). Among u.mine t) (set vs id w) id w (set_at vs id v w at) (on mine))
+    (λ other. other) (any_else (λ (u : PassState T E). Among u.mine t) vs id v w at a)
+
 -- the turns of few passes are few
-products : {T E Root : Type 0} (most : ℕ) (vs : List (PassState T E Root))
-    → ((j : ℕ) (u : PassState T E Root) → get_elem? vs j ≡ some u → u.turns ≤ most)
+products : {T E : Type 0} (most : ℕ) (vs : List (PassState T E))
+    → ((j : ℕ) (u : PassState T E) → get_elem? vs j ≡ some u → u.turns ≤ most)
     → total (λ u. u.share * u.turns) vs ≤ total (λ u. u.share) vs * most
 products most [] few = omega arith
 products most (u ∷ us) few =
@@ -63,7 +71,7 @@ products most (u ∷ us) few =
 
 module _ {T E Root : Type 0} (list : T → List E) (faults : T → ℕ) (root : T → Root) (first : T) where
   abbrev V : Type 0
-  V = PassState T E Root
+  V = PassState T E
 
   abbrev St : Type 0
   St = State (Option T) V
@@ -74,7 +82,7 @@ module _ {T E Root : Type 0} (list : T → List E) (faults : T → ℕ) (root : 
   abbrev start : ℕ
   start = length (list first)
 
-  abbrev pub Rose : List V → ℕ → Root → Type 0
+  abbrev pub Rose : List V → T → Type 0
   Rose = Risen {T = T} {E = E} {Root = Root} list faults root first
 
   abbrev pub marked : V → ℕ
@@ -86,25 +94,31 @@ module _ {T E Root : Type 0} (list : T → List E) (faults : T → ℕ) (root : 
   abbrev pub holding : ℕ → V → ℕ
   holding t v = holds_ticket t v.activity
 
-  -- the turns of all passes weigh the same, however they are weighed
-  abbrev pub WeighAlike : List V → List V → Type 0
-  WeighAlike vs ws = (f : Turn E → ℕ) → total (λ (u : V). total f u.mine) vs ≡ total (λ (u : V). total f u.mine) ws
+  -- the turns of all passes weigh the same, however they are weighed, and each that was made still is
+  pub record Alike (vs ws : List V) : Type 0 where
+    pub weigh : (f : Turn T E → ℕ) → total (λ (u : V). total f u.mine) vs ≡ total (λ (u : V). total f u.mine) ws
+    pub made : (t : Turn T E) → IsMade vs t → IsMade ws t
 
   -- one state changes, and its turns stay
   pub alike_set : (vs : List V) (id : ℕ) (v w : V) → get_elem? vs id ≡ some v → w.mine ≡ v.mine
-      → WeighAlike vs (set vs id w)
-  alike_set vs id v w at same f =
-      let c : total (λ (u : V). total f u.mine) (set vs id w) + total f v.mine ≡ total (λ (u : V). total f u.mine) vs
-      + total f w.mine =
-      total_set (λ (u : V). total f u.mine) vs id v w at in
-      let e : total f w.mine ≡ total f v.mine = ap (total f) same in omega arith
+      → Alike vs (set vs id w)
+  alike_set vs id v w at same = record {
+    weigh = λ f. (
+        let c : total (λ (u : V). total f u.mine) (set vs id w) + total f v.mine ≡ total (λ (u : V). total f u.mine) vs
+        + total f w.mine =
+        total_set (λ (u : V). total f u.mine) vs id v w at in
+        let e : total f w.mine ≡ total f v.mine = ap (total f) same in omega arith);
+    made = λ t a. made_set vs id v w t at (subst (λ ts. Among ts t) (sym same)) a;
+  }
 
-  pub risen_same : (vs ws : List V) (n : ℕ) (origin : Root) → WeighAlike vs ws → Rose vs n origin → Rose ws n origin
-  risen_same vs ws n origin e r = record {
-    count = r.count ∙ ap (λ (k : ℕ). faults first + k) (e (λ t. t.rise));
-    marks = (let same : total marked vs ≡ total marked ws = e (λ t. if t.marked then 1 else 0) in
-        ⊎_elim (λ (a : faults first + total marked vs ≤ n). inl (omega arith)) (λ (a : last_count ≤ n). inr a) r.marks);
+  pub risen_same : (vs ws : List V) (x : T) → Alike vs ws → Rose vs x → Rose ws x
+  risen_same vs ws x e r = record {
+    count = r.count ∙ ap (λ (k : ℕ). faults first + k) (e.weigh (λ t. t.rise));
+    marks = (let same : total marked vs ≡ total marked ws = e.weigh (λ t. if t.marked then 1 else 0) in
+        ⊎_elim (λ (a : faults first + total marked vs ≤ faults x). inl (omega arith))
+        (λ (a : last_count ≤ faults x). inr a) r.marks);
     stays = r.stays;
+    reached = reached_on (IsMade vs) (IsMade ws) first x e.made r.reached;
   }
 
   each_set : (F G : V → Type 0) (vs : List V) (me : ℕ) (w : V) → G w
@@ -141,10 +155,9 @@ module _ {T E Root : Type 0} (list : T → List E) (faults : T → ℕ) (root : 
       → ((k : ℕ) → within start (length r.log) k + groups_with k w.mine ≡ within start (length log) k
       + groups_with k v.mine)
       → FitsLock start log serving (Rose (set s.views id w)) w
-      → ((j : ℕ) (u : V) → j ≢ id → get_elem? s.views j ≡ some u → (t n : ℕ) (origin : Root) → u.activity
-      ≡ Holding t n origin
-      → (t ≡ r.serving) × (u.seen ≡ r.log) × Rose s.views n origin → (t ≡ serving) × (u.seen ≡ log)
-      × Rose (set s.views id w) n origin)
+      → ((j : ℕ) (u : V) → j ≢ id → get_elem? s.views j ≡ some u → (t : ℕ) (x : T) → u.activity ≡ Holding t x
+      → (t ≡ r.serving) × (u.seen ≡ r.log) × Rose s.views x → (t ≡ serving) × (u.seen ≡ log)
+      × Rose (set s.views id w) x)
       → 0 < v.share → LeftHome homes w
       → Home list faults root first log record { words = ws; homes = homes; views = set s.views id w }
       ⊎ Away list faults root first record { words = ws; homes = homes; views = set s.views id w }
@@ -216,18 +229,29 @@ module _ {T E Root : Type 0} (list : T → List E) (faults : T → ℕ) (root : 
     groups = λ k. sym (within_out start start k (dite (dec_le start k) (λ a. inl a) (λ a. inr (omega arith))));
     each = opens_each;
     lone = opens_lone;
-    value = inl (first, refl, refl, record { count = omega arith; marks = inl (omega arith); stays = refl }, refl);
+    value = inl (
+      first,
+      refl,
+      refl,
+      record {
+        count = omega arith;
+        marks = inl (omega arith);
+        stays = refl;
+        reached = record { turns = []; made = tt; leads = refl };
+      },
+      refl,
+    );
   }
 
   -- the same value, where no state's marks change and the passes that have the value are as many
   pub value_same : (log : List E) (s : St) (ws : List ℕ) (vs : List V) → total has vs ≡ total has s.views
-      → WeighAlike s.views vs
+      → Alike s.views vs
       → Home list faults root first log s ⊎ Away list faults root first s
       → Home list faults root first log record { words = ws; homes = s.homes; views = vs }
       ⊎ Away list faults root first record { words = ws; homes = s.homes; views = vs }
   value_same log s ws vs e m h =
       ⊎_elim (λ (a : Home list faults root first log s).
-      inl (a.0, a.1, a.2, risen_same s.views vs (faults a.0) (root a.0) m a.3, e ∙ a.4))
+      inl (a.0, a.1, a.2, risen_same s.views vs a.0 m a.3, e ∙ a.4))
       (λ (a : Away list faults root first s). inr (a.0, e ∙ a.1)) h
 
   draw_keeps : (s : St) (r : Rule s) (id : ℕ) (v : V) (m : ℕ) → v.activity ≡ Idle → 0 < v.share
@@ -270,7 +294,7 @@ module _ {T E Root : Type 0} (list : T → List E) (faults : T → ℕ) (root : 
         alive = ⊎_elim (λ (a : (0 < v.share) × (start ≤ length v.seen)). inl a)
             (λ (a : v ≡ spent_state). absurd (let z : v.share ≡ 0 = ap (λ (u : V). u.share) a in omega arith)) f.alive;
       })
-      (λ j u ne e t n origin is' g. (g.0, g.1, risen_same s.views (set s.views id w) n origin same g.2))
+      (λ j u ne e t x is' g. (g.0, g.1, risen_same s.views (set s.views id w) x same g.2))
       some_share
       (λ whole outside. r.lone id v at whole (subst IsOutside (sym idle) tt))
       (value_same r.log s (set s.words 0 ((m + 1) % 2 ^ 64)) (set s.views id w) same' same r.value)

@@ -1,6 +1,7 @@
 pub mod Sums
 pub mod Prefixes
 pub mod Order
+pub mod Reaching
 pub mod Changes
 pub mod Turns
 pub mod Seats

@@ -18,25 +18,25 @@ late a b c d e = dite (dec_le b a) (λ le. le) (λ gt. absurd (grind (arith, nat
 soon : (a b c d : ℕ) → (nat_lt b a || (a == b && nat_lt d c)) ≡ false → a ≤ b
 soon a b c d e = dite (dec_le a b) (λ le. le) (λ gt. absurd (grind (arith, nat_tests)))
 
-module _ {E : Type 0} where
-  no_groups_with : (p k : ℕ) (ts : List (Turn E)) → From p ts → k < p → groups_with k ts ≡ 0
+drop_append : {E : Type 0} (xs ys : List E) → drop (length xs) (xs ++ ys) ≡ ys
+drop_append [] ys = refl
+drop_append (x ∷ xs) ys = drop_append xs ys
+
+drop_whole : {E : Type 0} (xs : List E) → drop (length xs) xs ≡ []
+drop_whole [] = refl
+drop_whole (x ∷ xs) = drop_whole xs
+
+no_group : {E : Type 0} (g : List E) → length g ≡ 0 → g ≡ []
+no_group [] e = refl
+no_group (x ∷ xs) e = absurd (omega arith)
+
+module _ {T E : Type 0} where
+  no_groups_with : (p k : ℕ) (ts : List (Turn T E)) → From p ts → k < p → groups_with k ts ≡ 0
   no_groups_with p k [] f lt = refl
   no_groups_with p k (t ∷ ts) f lt = let r : groups_with k ts ≡ 0 = no_groups_with p k ts f.1 lt in let a = f.0 in
       let o : within t.place (end_of t) k ≡ 0 = within_out t.place (end_of t) k (inr (omega arith)) in omega arith
 
-  drop_append : (xs ys : List E) → drop (length xs) (xs ++ ys) ≡ ys
-  drop_append [] ys = refl
-  drop_append (x ∷ xs) ys = drop_append xs ys
-
-  drop_whole : (xs : List E) → drop (length xs) xs ≡ []
-  drop_whole [] = refl
-  drop_whole (x ∷ xs) = drop_whole xs
-
-  no_group : (g : List E) → length g ≡ 0 → g ≡ []
-  no_group [] e = refl
-  no_group (x ∷ xs) e = absurd (omega arith)
-
-  one_group : (seen : List E) (t : Turn E) → StandsIn seen t → drop t.place seen ≡ t.group ++ drop (end_of t) seen
+  one_group : (seen : List E) (t : Turn T E) → StandsIn seen t → drop t.place seen ≡ t.group ++ drop (end_of t) seen
   one_group seen t s =
       let before = s.0 in let rest = s.2.0 in
       let whole : (before ++ t.group) ++ rest ≡ seen = s.2.1 in
@@ -52,7 +52,7 @@ module _ {E : Type 0} where
       ap (λ (z : ℕ × List E). drop z.0 z.1) (λ i. (sym len i, sym whole i)) ∙ b in
       left ∙ ap (λ r. t.group ++ r) (sym right)
 
-  begins_here : (start n : ℕ) (t : Turn E) (ts : List (Turn E)) → From t.place ts
+  begins_here : (start n : ℕ) (t : Turn T E) (ts : List (Turn T E)) → From t.place ts
       → ((k : ℕ) → groups_with k (t ∷ ts) ≡ within start n k) → 0 < length t.group
       → t.place ≡ start
   begins_here start n t ts from counted some_group =
@@ -69,7 +69,7 @@ module _ {E : Type 0} where
       let o : within t.place (end_of t) start ≡ 0 =
       within_out t.place (end_of t) start (inr before) in absurd (omega arith))
 
-  pub follows : (seen : List E) (ts : List (Turn E)) (start n : ℕ) → InOrder ts → Every (StandsIn seen) ts
+  pub follows : (seen : List E) (ts : List (Turn T E)) (start n : ℕ) → InOrder ts → Every (StandsIn seen) ts
       → length seen ≡ n → start ≤ n
       → ((k : ℕ) → groups_with k ts ≡ within start n k) → drop start seen ≡ groups_of ts
   follows seen [] start n o e len le counted =
@@ -97,33 +97,33 @@ module _ {E : Type 0} where
       at in omega arith)) in
       ap (λ (z : ℕ). drop z seen) (sym at) ∙ (one_group seen t s ∙ ap (λ z. t.group ++ z) r))
 
-  from_less : (p q : ℕ) (ts : List (Turn E)) → p ≤ q → From q ts → From p ts
+  from_less : (p q : ℕ) (ts : List (Turn T E)) → p ≤ q → From q ts → From p ts
   from_less p q [] le f = tt
   from_less p q (t ∷ ts) le f = (let a = f.0 in omega arith, from_less p q ts le f.1)
 
-  pick : (t u : Turn E) (us : List (Turn E)) → InOrder (u ∷ us) → InOrder (insert_turn t us) → (b : Bool)
+  pick : (t u : Turn T E) (us : List (Turn T E)) → InOrder (u ∷ us) → InOrder (insert_turn t us) → (b : Bool)
       → (b ≡ true → u.place ≤ t.place)
       → (b ≡ false → t.place ≤ u.place) → InOrder (if b then u ∷ insert_turn t us else t ∷ u ∷ us)
   pick t u us o r true up down = (every_insert (λ z. u.place ≤ z.place) t us (up refl) o.0, r)
   pick t u us o r false up down = ((down refl, from_less t.place u.place us (down refl) o.0), o)
 
-  insert_in_order : (t : Turn E) (us : List (Turn E)) → InOrder us → InOrder (insert_turn t us)
+  insert_in_order : (t : Turn T E) (us : List (Turn T E)) → InOrder us → InOrder (insert_turn t us)
   insert_in_order t [] o = (tt, tt)
   insert_in_order t (u ∷ us) o =
       let up : comes_after t u ≡ true → u.place ≤ t.place = λ e. late t.place u.place (end_of t) (end_of u) e in
       let down : comes_after t u ≡ false → t.place ≤ u.place = λ e. soon t.place u.place (end_of t) (end_of u) e in
       pick t u us o (insert_in_order t us o.1) (comes_after t u) up down
 
-  pub merged_in_order : (ts us : List (Turn E)) → InOrder us → InOrder (merged ts us)
+  pub merged_in_order : (ts us : List (Turn T E)) → InOrder us → InOrder (merged ts us)
   merged_in_order [] us o = o
   merged_in_order (t ∷ ts) us o = insert_in_order t (merged ts us) (merged_in_order ts us o)
 
-  pub snoc_in_order : (ts : List (Turn E)) (t : Turn E) → InOrder ts → Every (λ u. u.place ≤ t.place) ts
+  pub snoc_in_order : (ts : List (Turn T E)) (t : Turn T E) → InOrder ts → Every (λ u. u.place ≤ t.place) ts
       → InOrder (ts ++ t ∷ [])
   snoc_in_order [] t o e = (tt, tt)
   snoc_in_order (u ∷ us) t o e = (every_snoc (λ z. u.place ≤ z.place) us t o.0 e.0, snoc_in_order us t o.1 e.1)
 
-  pub places_below : (seen : List E) (ts : List (Turn E)) → Every (StandsIn seen) ts
+  pub places_below : (seen : List E) (ts : List (Turn T E)) → Every (StandsIn seen) ts
       → Every (λ u. u.place ≤ length seen) ts
   places_below seen [] e = tt
   places_below seen (t ∷ ts) e = (

@@ -40,10 +40,10 @@ prefix_drop (x ∷ xs) [] p = absurd (cc (p.1))
 prefix_drop (x ∷ xs) (y ∷ ys) p = let rest : xs ++ drop (length xs) ys ≡ ys =
     prefix_drop xs ys (p.0, cc (p.1)) in cc (p.1, rest)
 
-pub stands_longer : {E : Type 0} (log more : List E) (t : Turn E) → IsPrefix log more → StandsIn log t → StandsIn more t
+pub stands_longer : {T E : Type 0} (log more : List E) (t : Turn T E) → IsPrefix log more → StandsIn log t → StandsIn more t
 stands_longer log more t p s = (s.0, s.1, prefix_trans (s.0 ++ t.group) log more s.2 p)
 
-pub every_longer : {E : Type 0} (log more : List E) (ts : List (Turn E)) → IsPrefix log more → Every (StandsIn log) ts
+pub every_longer : {T E : Type 0} (log more : List E) (ts : List (Turn T E)) → IsPrefix log more → Every (StandsIn log) ts
     → Every (StandsIn more) ts
 every_longer log more [] p e = tt
 every_longer log more (t ∷ ts) p e = (stands_longer log more t p e.0, every_longer log more ts p e.1)

@@ -5,7 +5,7 @@ use Rattle.std.proofs.Common.{refl, ap, sym, ◌∙◌, subst, arith, add-mul, m
 use Rattle.std.proofs.lemmas.Bool.Decides.{nat_tests}
 use mathlib.Core.Logic.{dite}
 use mathlib.Core.List.{IsPrefix}
-use mathlib.Core.Option.{some, none}
+use mathlib.Core.Option.{some, none, some-injective}
 use native.Mathlib.Decide.{ℕ_discrete, dec_le}
 use lib.ListN.{get_elem?}
 use lib.Seq.{set-get_or}
@@ -16,29 +16,31 @@ use Rattle.cr_lock.specs.declared.pass_state.Turn.{Turn}
 use Rattle.cr_lock.specs.declared.pass_state.Activity.{Activity}
 use Rattle.cr_lock.specs.declared.pass_state.Activity.TheVariants.{Idle, Holding, Joined}
 use Rattle.cr_lock.specs.declared.pass_state.PassState.{PassState}
-use Rattle.cr_lock.specs.Counts.{last_count, within, total, Every}
+use Rattle.cr_lock.specs.Counts.{last_count, within, total, Every, Among}
 use Rattle.cr_lock.specs.Turns.{InOrder, end_of, groups_with, marks, rises, StandsIn, longer, InCommon}
 use Rattle.cr_lock.specs.PassStates.{left_half, right_half, joining, spent_state}
 use Rattle.cr_lock.specs.Passes.{Known}
 use Rattle.cr_lock.specs.Closing.{Closes}
-use Rattle.cr_lock.specs.Rule.{holds_ticket, has_value, FitsActivity, FitsLock, IsOutside, LeftHome, Home, Away}
+use Rattle.cr_lock.specs.Rule.{holds_ticket, has_value, FitsActivity, FitsLock, IsMade, IsOutside, LeftHome, Home}
+use Rattle.cr_lock.specs.Rule.{Away}
 use Rattle.cr_lock.specs.Steps.{LookedAfterJoin}
 use Rattle.cr_lock.proofs.Prefixes.{prefix_self, prefix_shorter, prefix_length, prefix_either, prefix_whole}
 use Rattle.cr_lock.proofs.Prefixes.{prefix_drop, every_longer}
 use Rattle.cr_lock.proofs.Order.{follows, merged_in_order}
 use Rattle.cr_lock.proofs.Sums.{total_append, total_set, total_at, total_two, total_only, total_merged, every_merged}
 use Rattle.cr_lock.proofs.Sums.{within_one, within_in, within_is}
-use Rattle.cr_lock.proofs.Changes.{Rule, Rose, WeighAlike, change, alike_set, not_alone, risen_same, value_same}
+use Rattle.cr_lock.proofs.Reaching.{any_at, any_else, any_is, any_left, merged_left, merged_right, set_at, reached_on}
+use Rattle.cr_lock.proofs.Changes.{Rule, Rose, Alike, change, alike_set, made_set, not_alone, risen_same, value_same}
 use Rattle.cr_lock.proofs.Changes.{fits_on}
 use Rattle.cr_lock.proofs.Turns.{same_home}
 
-unmoved_risen : {T E Root : Type 0} (P Q : ℕ → Root → Type 0) (serving : ℕ) (v : PassState T E Root) (log : List E)
-    → ((n : ℕ) (origin : Root) → P n origin → Q n origin) → (t n : ℕ) (origin : Root) → v.activity ≡ Holding t n origin
-    → (t ≡ serving) × (v.seen ≡ log) × P n origin → (t ≡ serving) × (v.seen ≡ log) × Q n origin
-unmoved_risen P Q serving v log on t n origin is g = (g.0, g.1, on n origin g.2)
+unmoved_risen : {T E : Type 0} (P Q : T → Type 0) (serving : ℕ) (v : PassState T E) (log : List E)
+    → ((x : T) → P x → Q x) → (t : ℕ) (x : T) → v.activity ≡ Holding t x
+    → (t ≡ serving) × (v.seen ≡ log) × P x → (t ≡ serving) × (v.seen ≡ log) × Q x
+unmoved_risen P Q serving v log on t x is g = (g.0, g.1, on x g.2)
 
 -- an entry in a group that stands in a list has its number in the list
-covered : {E : Type 0} (k : ℕ) (ts : List (Turn E)) (log : List E) → Every (StandsIn log) ts → 0 < groups_with k ts
+covered : {T E : Type 0} (k : ℕ) (ts : List (Turn T E)) (log : List E) → Every (StandsIn log) ts → 0 < groups_with k ts
     → k < length log
 covered k [] log e h = absurd (omega arith)
 covered k (t ∷ ts) log e h = dite (ℕ_discrete (within t.place (end_of t) k) 0)
@@ -71,7 +73,7 @@ longer_of xs ys zs p q = longer_is xs ys zs (nat_lt (length xs) (length ys)) (λ
 
 module _ {T E Root : Type 0} (list : T → List E) (faults : T → ℕ) (root : T → Root) (first : T) where
   abbrev V : Type 0
-  V = PassState T E Root
+  V = PassState T E
 
   abbrev St : Type 0
   St = State (Option T) V
@@ -82,7 +84,7 @@ module _ {T E Root : Type 0} (list : T → List E) (faults : T → ℕ) (root : 
   abbrev start : ℕ
   start = length (list first)
 
-  abbrev Up : List V → ℕ → Root → Type 0
+  abbrev Up : List V → T → Type 0
   Up = Rose list faults root first
 
   alive_some : (v : V) → 0 < v.share → ((0 < v.share) × (start ≤ length v.seen)) ⊎ (v ≡ spent_state)
@@ -104,8 +106,11 @@ module _ {T E Root : Type 0} (list : T → List E) (faults : T → ℕ) (root : 
       let f = r.each id v at in
       let vs' = set s.views id l ++ o ∷ [] in
       let half : v.share / 2 ≤ v.share = omega arith in
-      let same : WeighAlike list faults root first s.views vs' =
-      λ f. sym (cut (λ (u : V). total f u.mine) s.views id v l o at (omega arith)) in
+      let same : Alike list faults root first s.views vs' = record {
+        weigh = λ f. sym (cut (λ (u : V). total f u.mine) s.views id v l o at (omega arith));
+        made = λ t a. any_left (λ (u : V). Among u.mine t) (set s.views id l) (o ∷ [])
+            (made_set s.views id v l t at (λ mine. mine) a);
+      } in
       let long = alive_some v (omega arith) f.alive in
       let holders : total (λ (u : V). has_value u.activity) vs' ≡ total (λ (u : V). has_value u.activity) s.views =
       (let z : has_value v.activity ≡ 0 = ap has_value idle in cut (λ (u : V). has_value u.activity) s.views id v l o at
@@ -142,7 +147,7 @@ module _ {T E Root : Type 0} (list : T → List E) (faults : T → ℕ) (root : 
             (λ (b : (j ≢ id) × (get_elem? s.views j ≡ some u)). fits_on start r.log r.log r.serving r.serving
             (Up s.views) (Up vs') u (prefix_self r.log)
             (unmoved_risen (Up s.views) (Up vs') r.serving u r.log
-            (λ n origin. risen_same list faults root first s.views vs' n origin same)) (r.each j u b.1))
+            (λ x. risen_same list faults root first s.views vs' x same)) (r.each j u b.1))
             (at_set s.views id j l u a))
             (λ (a : o ≡ u). subst (FitsLock start r.log r.serving (Up vs')) a
             (fits_idle o idle refl refl tt tt (omega arith)))
@@ -168,14 +173,14 @@ module _ {T E Root : Type 0} (list : T → List E) (faults : T → ℕ) (root : 
       total_set F (set vs id b) other w spent_state at' in
       let q : total F (set vs id b) + F v ≡ total F vs + F b = total_set F vs id v b at in omega arith
 
-  spent_fits : (log : List E) (serving : ℕ) (risen : ℕ → Root → Type 0)
+  spent_fits : (log : List E) (serving : ℕ) (risen : T → Type 0)
       → FitsLock {T = T} start log serving risen spent_state
   spent_fits log serving risen =
       record { seen = (log, refl); few = omega arith; stand = tt; sorted = tt; activity = tt; alive = inr refl }
 
   -- a list in which each group stands and that has what was there at first, where each later entry is in a group, has
   -- all entries
-  seen_all : (seen log : List E) (mine : List (Turn E)) → Every (StandsIn seen) mine → start ≤ length seen
+  seen_all : (seen log : List E) (mine : List (Turn T E)) → Every (StandsIn seen) mine → start ≤ length seen
       → ((k : ℕ) → groups_with k mine ≡ within start (length log) k) → length log ≤ length seen
   seen_all seen log mine stand more counted = dite (dec_le (length log) (length seen)) (λ le. le) (λ gt.
       let one : within start (length log) (length seen) ≡ 1 =
@@ -183,6 +188,18 @@ module _ {T E Root : Type 0} (list : T → List E) (faults : T → ℕ) (root : 
       let c =
       counted (length seen) in absurd (let z : length seen < length seen = covered (length seen) mine seen stand
       (omega arith) in omega arith))
+
+  -- a turn that was made still is, where two states are made one that has the turns of both
+  made_joined : (vs : List V) (id other : ℕ) (v w b : V) → get_elem? vs id ≡ some v
+      → get_elem? (set vs id b) other ≡ some w → other ≢ id
+      → ((t : Turn T E) → Among v.mine t → Among b.mine t) → ((t : Turn T E) → Among w.mine t → Among b.mine t)
+      → (t : Turn T E) → IsMade vs t → IsMade (set (set vs id b) other spent_state) t
+  made_joined vs id other v w b at at' ne one two t a =
+      ⊎_elim
+      (λ mine. any_at (λ (u : V). Among u.mine t) (set (set vs id b) other spent_state) id b
+      (set_else (set vs id b) other id spent_state (λ e. ne (sym e)) ∙ set_at vs id v b at) (two t mine))
+      (λ more. more)
+      (any_else (λ (u : V). Among u.mine t) (set vs id b) other w spent_state at' (made_set vs id v b t at (one t) a))
 
   pub joins : (id : ℕ) (v : V) (other : ℕ) (w : V) → v.activity ≡ Idle → w.activity ≡ Idle → 0 < v.share → 0 < w.share
       → Joins R id v other w (joining v w) spent_state
@@ -194,8 +211,13 @@ module _ {T E Root : Type 0} (list : T → List E) (faults : T → ℕ) (root : 
       let vs' = set (set s.views id b) other spent_state in
       let no : has_value v.activity ≡ 0 = ap has_value idle in
       let no' : has_value w.activity ≡ 0 = ap has_value idle' in
-      let same : WeighAlike list faults root first s.views vs' =
-      λ f. sym (glue (λ (u : V). total f u.mine) s.views id other v w b at at' (total_merged f v.mine w.mine) refl) in
+      let same : Alike list faults root first s.views vs' = record {
+        weigh = λ f. sym (glue (λ (u : V). total f u.mine) s.views id other v w b at at' (total_merged f v.mine w.mine)
+            refl);
+        made = made_joined s.views id other v w b at at' ne
+            (λ t a. merged_left (λ (z : Turn T E). t ≡ z) v.mine w.mine a)
+            (λ t a. merged_right (λ (z : Turn T E). t ≡ z) v.mine w.mine a);
+      } in
       let holders : total (λ (u : V). has_value u.activity) vs' ≡ total (λ (u : V). has_value u.activity) s.views =
       glue (λ (u : V). has_value u.activity) s.views id other v w b at at' (omega arith) refl in
       let long = longer_of v.seen w.seen r.log f.seen h.seen in
@@ -243,7 +265,7 @@ module _ {T E Root : Type 0} (list : T → List E) (faults : T → ℕ) (root : 
             let z : w.share * w.turns ≤ w.share * max v.turns w.turns =
             mul-le-mul_left w.share (max_right v.turns w.turns) in let d = r.drawn in omega arith);
         groups = λ k. glue (λ (u : V). groups_with k u.mine) s.views id other v w b at at'
-            (total_merged (λ (z : Turn E). within z.place (end_of z) k) v.mine w.mine) refl ∙ r.groups k;
+            (total_merged (λ (z : Turn T E). within z.place (end_of z) k) v.mine w.mine) refl ∙ r.groups k;
         each = λ j u e. ⊎_elim
             (λ (a : (j ≡ other) × (spent_state ≡ u)). subst (FitsLock start r.log r.serving (Up vs')) a.1
             (spent_fits r.log r.serving (Up vs')))
@@ -252,7 +274,7 @@ module _ {T E Root : Type 0} (list : T → List E) (faults : T → ℕ) (root : 
             (λ (c : (j ≢ id) × (get_elem? s.views j ≡ some u)). fits_on start r.log r.log r.serving r.serving
             (Up s.views) (Up vs') u (prefix_self r.log)
             (unmoved_risen (Up s.views) (Up vs') r.serving u r.log
-            (λ n origin. risen_same list faults root first s.views vs' n origin same)) (r.each j u c.1))
+            (λ x. risen_same list faults root first s.views vs' x same)) (r.each j u c.1))
             (at_set s.views id j b u a.1))
             (at_set (set s.views id b) other j spent_state u e);
         lone = λ j u e. ⊎_elim
@@ -266,7 +288,7 @@ module _ {T E Root : Type 0} (list : T → List E) (faults : T → ℕ) (root : 
         value = value_same list faults root first r.log s s.words vs' holders same r.value;
       }
 
-  settle_keeps : (s : St) (r : R s) (id : ℕ) (v : V) (a b : List E) (m o : List (Turn E))
+  settle_keeps : (s : St) (r : R s) (id : ℕ) (v : V) (a b : List E) (m o : List (Turn T E))
       → get_elem? s.views id ≡ some v → v.activity ≡ Joined a b m o
       → R record {
         words = set s.words 1 (get_or s.words 1 0);
@@ -302,21 +324,21 @@ module _ {T E Root : Type 0} (list : T → List E) (faults : T → ℕ) (root : 
         activity = tt;
         alive = inl alive;
       })
-      (λ j u ne e t n origin is' g. unmoved_risen (Up s.views) (Up vs') r.serving u r.log
-      (λ k o. risen_same list faults root first s.views vs' k o same) t n origin is' g)
+      (λ j u ne e t x is' g. unmoved_risen (Up s.views) (Up vs') r.serving u r.log
+      (λ y. risen_same list faults root first s.views vs' y same) t x is' g)
       alive.0
       (λ whole outside. tt)
       (value_same list faults root first r.log s (set s.words 1 (get_or s.words 1 0)) vs' holders same r.value)
 
-  same_four : (a b : List E) (m o : List (Turn E)) (a' b' : List E) (m' o' : List (Turn E)) {activity : Activity E Root}
+  same_four : (a b : List E) (m o : List (Turn T E)) (a' b' : List E) (m' o' : List (Turn T E)) {activity : Activity T E}
       → activity ≡ Joined a b m o
       → activity ≡ Joined a' b' m' o'
-      → ◌≡◌ {A = List E × List E × List (Turn E) × List (Turn E)} (a, b, m, o) (a', b', m', o')
+      → ◌≡◌ {A = List E × List E × List (Turn T E) × List (Turn T E)} (a, b, m, o) (a', b', m', o')
   same_four a b m o a' b' m' o' e e' = let p : a ≡ a' = cc (e, e') in let q : b ≡ b' = cc (e, e') in let t : m ≡ m' =
       cc (e, e') in
       let u : o ≡ o' = cc (e, e') in λ i. (p i, q i, t i, u i)
 
-  settles_at : (slots id : ℕ) (v : V) (a b : List E) (m o : List (Turn E)) → v.activity ≡ Joined a b m o
+  settles_at : (slots id : ℕ) (v : V) (a b : List E) (m o : List (Turn T E)) → v.activity ≡ Joined a b m o
       → Allows R slots id (v, []) 1 (λ n. n) (LookedAfterJoin (step slots 1 0 0 none) (v, []))
   settles_at slots id v a b m o is s r _ at _ =
       let f = r.each id v at in
@@ -329,7 +351,7 @@ module _ {T E Root : Type 0} (list : T → List E) (faults : T → ℕ) (root : 
         tt,
         settle_keeps s r id v a b m o at is,
         λ a' b' m' o' is'. (
-          subst (λ (z : List E × List E × List (Turn E) × List (Turn E)). InCommon z.0 z.1 z.2 z.3)
+          subst (λ (z : List E × List E × List (Turn T E) × List (Turn T E)). InCommon z.0 z.1 z.2 z.3)
               (same_four a b m o a' b' m' o' is is')
               (prefix_either a b r.log g.0 g.1, g.2),
           omega arith,
@@ -338,12 +360,23 @@ module _ {T E Root : Type 0} (list : T → List E) (faults : T → ℕ) (root : 
         ),
       )
 
-  pub settles : (slots id : ℕ) (me : Me (Option T) V) (a b : List E) (m o : List (Turn E))
+  pub settles : (slots id : ℕ) (me : Me (Option T) V) (a b : List E) (m o : List (Turn T E))
       → me.0.activity ≡ Joined a b m o → me.1 ≡ []
       → Allows R slots id me 1 (λ n. n) (LookedAfterJoin (step slots 1 0 0 none) me)
   settles slots id me a b m o is held =
       subst (λ (m : Me (Option T) V). Allows R slots id m 1 (λ n. n) (LookedAfterJoin (step slots 1 0 0 none) m))
       (λ i. (me.0, sym held i)) (settles_at slots id me.0 a b m o is)
+
+  -- where one state has the whole share, each turn that was made is its own
+  its_own : (s : St) (r : R s) (id : ℕ) (v : V) → v.share ≡ 64 → get_elem? s.views id ≡ some v
+      → (t : Turn T E) (j : ℕ) (u : V) → get_elem? s.views j ≡ some u → Among u.mine t → Among v.mine t
+  its_own s r id v whole at t j u e mine = dite (ℕ_discrete j id)
+      (λ same. subst (λ (z : V). Among z.mine t)
+      (some-injective u v (sym e ∙ (ap (λ (k : ℕ). get_elem? s.views k) same ∙ at))) mine)
+      (λ ne. ⊎_elim
+      (λ (h : (0 < u.share) × (start ≤ length u.seen)). absurd
+      (not_alone list faults root first s r j u e h.0 id v (λ o. ne (sym o)) at whole))
+      (λ (h : u ≡ spent_state). absurd (subst (λ (z : V). Among z.mine t) h mine)) (r.each j u e).alive)
 
   -- the end
   abbrev known : TableId → V → Known T E
@@ -371,7 +404,9 @@ module _ {T E Root : Type 0} (list : T → List E) (faults : T → ℕ) (root : 
       λ k. sym (only (λ (u : V). groups_with k u.mine) refl) ∙ r.groups k in
       let all_seen : v.seen ≡ r.log = prefix_whole v.seen r.log f.seen
       (seen_all v.seen r.log v.mine f.stand (alive_some v (omega arith) f.alive) counted) in
-      let marked_all : total (λ (u : V). marks u.mine) s.views ≡ marks v.mine = only (λ (u : V). marks u.mine) refl in (
+      let marked_all : total (λ (u : V). marks u.mine) s.views ≡ marks v.mine = only (λ (u : V). marks u.mine) refl in
+      let its : (t : Turn T E) → IsMade s.views t → Among v.mine t = λ t a.
+      (let m = any_is (λ (u : V). Among u.mine t) s.views a in its_own s r id v whole at t m.0 m.1 m.2 m.3) in (
         x,
         fin.4 0 (Some x) (ap (λ hs. get_elem? hs 0) home.1),
         record {
@@ -386,6 +421,7 @@ module _ {T E Root : Type 0} (list : T → List E) (faults : T → ℕ) (root : 
           marks = ⊎_elim (λ (a : faults first + total (λ (u : V). marks u.mine) s.views ≤ faults x). inl (omega arith))
               (λ (a : last_count ≤ faults x). inr a) home.3.marks;
           root = home.3.stays;
+          reached = reached_on (IsMade s.views) (Among v.mine) first x its home.3.reached;
           left = same_home v.left x s.homes home.1 (r.lone id v at whole (subst IsOutside (sym idle) tt));
           count = home.3.count ∙ ap (λ (k : ℕ). faults first + k) (only (λ (u : V). rises u.mine) refl);
         },

@@ -76,8 +76,8 @@ module _ {X : Type 0} (f : X → ℕ) where
       let here : f z ≡ 0 = zeros 0 z refl (omega arith) in omega arith
 
 -- f of a merged list
-module _ {E : Type 0} (f : Turn E → ℕ) where
-  pub total_insert : (t : Turn E) (us : List (Turn E)) → total f (insert_turn t us) ≡ f t + total f us
+module _ {T E : Type 0} (f : Turn T E → ℕ) where
+  pub total_insert : (t : Turn T E) (us : List (Turn T E)) → total f (insert_turn t us) ≡ f t + total f us
   total_insert t [] = refl
   total_insert t (u ∷ us) =
       elim (comes_after t u) as (λ b. total f (if b then u ∷ insert_turn t us else t ∷ u ∷ us) ≡ f t
@@ -87,20 +87,20 @@ module _ {E : Type 0} (f : Turn E → ℕ) where
             refl
       ]
 
-  pub total_merged : (ts us : List (Turn E)) → total f (merged ts us) ≡ total f ts + total f us
+  pub total_merged : (ts us : List (Turn T E)) → total f (merged ts us) ≡ total f ts + total f us
   total_merged [] us = omega arith
   total_merged (t ∷ ts) us = let r : total f (merged ts us) ≡ total f ts + total f us = total_merged ts us in
       let p : total f (insert_turn t (merged ts us)) ≡ f t + total f (merged ts us) =
       total_insert t (merged ts us) in omega arith
 
-module _ {E : Type 0} (P : Turn E → Type 0) where
-  pub every_insert : (t : Turn E) (us : List (Turn E)) → P t → Every P us → Every P (insert_turn t us)
+module _ {T E : Type 0} (P : Turn T E → Type 0) where
+  pub every_insert : (t : Turn T E) (us : List (Turn T E)) → P t → Every P us → Every P (insert_turn t us)
   every_insert t [] p e = (p, tt)
   every_insert t (u ∷ us) p e = elim (comes_after t u) as
       (λ b. Every P (if b then u ∷ insert_turn t us else t ∷ u ∷ us))
       [ true ↦ (e.0, every_insert t us p e.1) | false ↦ (p, e) ]
 
-  pub every_merged : (ts us : List (Turn E)) → Every P ts → Every P us → Every P (merged ts us)
+  pub every_merged : (ts us : List (Turn T E)) → Every P ts → Every P us → Every P (merged ts us)
   every_merged [] us e d = d
   every_merged (t ∷ ts) us e d = every_insert t (merged ts us) e.0 (every_merged ts us e.1 d)
 

@@ -15,23 +15,24 @@ use Rattle.cr_lock.specs.declared.pass_state.Turn.{Turn}
 use Rattle.cr_lock.specs.declared.pass_state.Activity.{Activity}
 use Rattle.cr_lock.specs.declared.pass_state.Activity.TheVariants.{Idle, Waiting, Holding, Joined}
 use Rattle.cr_lock.specs.declared.pass_state.PassState.{PassState}
-use Rattle.cr_lock.specs.Counts.{last_count, has_risen, within, total, Every}
+use Rattle.cr_lock.specs.Counts.{last_count, has_risen, within, total, Every, Among}
 use Rattle.cr_lock.specs.Turns.{turn_at, end_of, groups_with, marks, rises, StandsIn}
 use Rattle.cr_lock.specs.PassStates.{spent_state}
-use Rattle.cr_lock.specs.Rule.{holds_ticket, has_value, FitsActivity, FitsLock, IsOutside, Home, Away}
+use Rattle.cr_lock.specs.Rule.{holds_ticket, has_value, FitsActivity, FitsLock, IsMade, IsOutside, Home, Away}
 use Rattle.cr_lock.specs.Steps.{Looked, Noted, noted_at, WentOn}
 use Rattle.cr_lock.proofs.Prefixes.{prefix_self, prefix_length, prefix_drop, every_longer, every_snoc}
 use Rattle.cr_lock.proofs.Order.{snoc_in_order, places_below}
 use Rattle.cr_lock.proofs.Sums.{total_append, total_set, total_at, total_two, total_gap, within_join, within_one}
 use Rattle.cr_lock.proofs.Sums.{within_in, within_is}
-use Rattle.cr_lock.proofs.Changes.{Rule, Rose, has, change, alike_set, risen_same, ticket_small}
+use Rattle.cr_lock.proofs.Reaching.{any_at, any_left, any_right, set_at, reached_next, reached_on}
+use Rattle.cr_lock.proofs.Changes.{Rule, Rose, has, change, alike_set, made_set, risen_same, ticket_small}
 
--- a turn that left the value y, which stood for the list xs and stands for ys
-abbrev pub after_turn : {T E Root : Type 0} → PassState T E Root → T → List E → List E → ℕ → ℕ → PassState T E Root
-after_turn v y xs ys m n = record v {
+-- a turn that found the value x and left y, which stood for the list xs and stands for ys
+abbrev pub after_turn : {T E : Type 0} → PassState T E → T → T → List E → List E → ℕ → ℕ → PassState T E
+after_turn v x y xs ys m n = record v {
   turns = v.turns + 1;
   seen = ys;
-  mine = v.mine ++ turn_at (length xs) (drop (length xs) ys) m n ∷ [];
+  mine = v.mine ++ turn_at (length xs) (drop (length xs) ys) m n x y ∷ [];
   left = Some y;
 }
 
@@ -45,20 +46,19 @@ same_home (Some y) x homes is left =
     let values : Some x ≡ Some y = some-injective (Some x) (Some y) heads in cc (values)
 
 -- a pass that has the value holds the ticket that is served
-has_at_most : {T E Root : Type 0} (start : ℕ) (log : List E) (serving : ℕ) (risen : ℕ → Root → Type 0)
-    (v : PassState T E Root) (activity : Activity E Root)
+has_at_most : {T E : Type 0} (start : ℕ) (log : List E) (serving : ℕ) (risen : T → Type 0) (v : PassState T E)
+    (activity : Activity T E)
     → FitsActivity start log serving risen v activity → has_value activity ≤ holds_ticket serving activity
 has_at_most start log serving risen v Idle f = omega arith
 has_at_most start log serving risen v (Waiting u) f = omega arith
-has_at_most start log serving risen v (Holding u n origin) f = let e : within u (u + 1) serving ≡ 1 =
+has_at_most start log serving risen v (Holding u x) f = let e : within u (u + 1) serving ≡ 1 =
     (let z = f.0 in within_in u (u + 1) serving (omega arith) (omega arith)) in omega arith
 has_at_most start log serving risen v (Joined a b m o) f = omega arith
 
-served : {T E Root : Type 0} (start : ℕ) (log : List E) (serving : ℕ) (risen : ℕ → Root → Type 0)
-    (v : PassState T E Root) (t n : ℕ) (origin : Root)
-    → v.activity ≡ Holding t n origin → FitsLock start log serving risen v → (t ≡ serving) × (v.seen ≡ log)
-    × risen n origin
-served start log serving risen v t n origin e f =
+served : {T E : Type 0} (start : ℕ) (log : List E) (serving : ℕ) (risen : T → Type 0) (v : PassState T E) (t : ℕ)
+    (x : T)
+    → v.activity ≡ Holding t x → FitsLock start log serving risen v → (t ≡ serving) × (v.seen ≡ log) × risen x
+served start log serving risen v t x e f =
     subst (λ activity. FitsActivity start log serving risen v activity) e f.activity
 
 -- the count of faults has risen by one more mark, where it has risen
@@ -70,7 +70,7 @@ marked_more a n c le h =
 
 module _ {T E Root : Type 0} (list : T → List E) (faults : T → ℕ) (root : T → Root) (first : T) where
   abbrev V : Type 0
-  V = PassState T E Root
+  V = PassState T E
 
   abbrev St : Type 0
   St = State (Option T) V
@@ -81,7 +81,7 @@ module _ {T E Root : Type 0} (list : T → List E) (faults : T → ℕ) (root : 
   abbrev start : ℕ
   start = length (list first)
 
-  abbrev Up : List V → ℕ → Root → Type 0
+  abbrev Up : List V → T → Type 0
   Up = Rose list faults root first
 
   alive_share : (v : V) → v.activity ≢ Idle → ((0 < v.share) × (start ≤ length v.seen)) ⊎ (v ≡ spent_state)
@@ -107,14 +107,14 @@ module _ {T E Root : Type 0} (list : T → List E) (faults : T → ℕ) (root : 
 
   look_takes : (s : St) (r : R s) (id : ℕ) (v : V) (t : ℕ) (x : T) → get_elem? s.views id ≡ some v
       → v.activity ≡ Waiting t → t ≡ r.serving
-      → s.homes ≡ some (Some x) ∷ [] → list x ≡ r.log → Up s.views (faults x) (root x)
+      → s.homes ≡ some (Some x) ∷ [] → list x ≡ r.log → Up s.views x
       → R record {
         words = set s.words 1 (get_or s.words 1 0);
         homes = set s.homes 0 none;
-        views = set s.views id (record v { seen = list x; activity = Holding t (faults x) (root x) });
+        views = set s.views id (record v { seen = list x; activity = Holding t x });
       }
   look_takes s r id v t x at waits e home stands up =
-      let w : V = record v { seen = list x; activity = Holding t (faults x) (root x) } in
+      let w : V = record v { seen = list x; activity = Holding t x } in
       let f = r.each id v at in
       let vs' = set s.views id w in
       let nobody : total (λ (u : V). has_value u.activity) s.views ≡ 0 = at_home s r id v t at waits e in
@@ -141,10 +141,10 @@ module _ {T E Root : Type 0} (list : T → List E) (faults : T → ℕ) (root : 
         few = f.few;
         stand = every_longer v.seen (list x) v.mine seen f.stand;
         sorted = f.sorted;
-        activity = (e, stands, risen_same list faults root first s.views vs' (faults x) (root x) same up);
+        activity = (e, stands, risen_same list faults root first s.views vs' x same up);
         alive = inl (alive.0, omega arith);
       })
-      (λ j u ne a k n origin is' g. absurd (let h : has_value u.activity ≡ 1 = ap has_value is' in
+      (λ j u ne a k y is' g. absurd (let h : has_value u.activity ≡ 1 = ap has_value is' in
       let q : has_value u.activity ≤ total (λ (z : V). has_value z.activity) s.views =
       total_at (λ (z : V). has_value z.activity) s.views j u a in
       omega arith))
@@ -160,7 +160,7 @@ module _ {T E Root : Type 0} (list : T → List E) (faults : T → ℕ) (root : 
       (let z : total (λ (u : V). has_value u.activity) s.views ≡ 0 = at_home s r id v t at waits e in
       let o = a.1 in omega arith)) h
 
-  yes_is : (t u : ℕ) {activity : Activity E Root} → activity ≡ Waiting t → activity ≡ Waiting u → t ≡ u
+  yes_is : (t u : ℕ) {activity : Activity T E} → activity ≡ Waiting t → activity ≡ Waiting u → t ≡ u
   yes_is t u a b = cc (a, b)
 
   unmoved : (s : St) (id : ℕ) (v : V) → get_elem? s.views id ≡ some v
@@ -171,14 +171,14 @@ module _ {T E Root : Type 0} (list : T → List E) (faults : T → ℕ) (root : 
       ∙ ap (λ (vs : List V). record { words = s.words; homes = s.homes; views = vs }) (set_again s.views id v at))
 
   looks_at : (slots id : ℕ) (v : V) (t : ℕ) → v.activity ≡ Waiting t
-      → Allows R slots id (v, []) 1 (λ n. n) (Looked list faults root (step slots 1 0 0 none) (v, []))
+      → Allows R slots id (v, []) 1 (λ n. n) (Looked list (step slots 1 0 0 none) (v, []))
   looks_at slots id v t waits s r _ at _ =
       let m : ℕ = get_or s.words 1 0 in
       let here : m ≡ r.serving = ap (λ (ws : List ℕ). get_or ws 1 0) r.words in
       dite (ℕ_discrete m t)
       (λ yes. let h = look_finds s r id v t at waits (sym yes ∙ here) r.value in let x : T = h.0 in let f =
       r.each id v at in (
-        record v { seen = list x; activity = Holding t (faults x) (root x) },
+        record v { seen = list x; activity = Holding t x },
         takes 0 (Some x),
         ap (λ hs. get_elem? hs 0) h.1,
         look_takes s r id v t x at waits (sym yes ∙ here) h.1 h.2 h.3,
@@ -187,7 +187,7 @@ module _ {T E Root : Type 0} (list : T → List E) (faults : T → ℕ) (root : 
             x,
             subst (λ z. IsPrefix v.seen z) (sym h.2) f.seen,
             λ whole. same_home v.left x s.homes h.1 (r.lone id v at whole (subst IsOutside (sym waits) tt)),
-            ap (λ (k : ℕ). (record v { seen = list x; activity = Holding k (faults x) (root x) }, (0, Some x) ∷ []))
+            ap (λ (k : ℕ). (record v { seen = list x; activity = Holding k x }, (0, Some x) ∷ []))
                 (yes_is t u waits e),
           ),
           λ no. absurd (no (yes ∙ yes_is t u waits e)),
@@ -201,19 +201,17 @@ module _ {T E Root : Type 0} (list : T → List E) (faults : T → ℕ) (root : 
         λ u e. (λ is. absurd (no (is ∙ yes_is u t e waits)), λ _. refl),
       ))
 
-  same_turn : (t n t' n' : ℕ) (origin origin' : Root) (x y : T) {activity : Activity E Root}
-      → activity ≡ Holding t n origin → activity ≡ Holding t' n' origin'
-      → ◌≡◌ {A = List (ℕ × Option T)} ((0, Some x) ∷ []) ((0, Some y) ∷ []) → ◌≡◌ {A = ℕ × ℕ × T} (t, n, x) (t', n', y)
-  same_turn t n t' n' origin origin' x y a b c = let p : t ≡ t' = cc (a, b) in let q : n ≡ n' = cc (a, b) in
-      let d : ◌≡◌ {A = ℕ × Option T} (0, Some x) (0, Some y) = cc (c) in let e : ◌≡◌ {A = Option T} (Some x) (Some y) =
-      ap (λ (z : ℕ × Option T). z.1) d in
-      let o : x ≡ y = cc (e) in λ i. (p i, q i, o i)
+  same_turn : (t t' : ℕ) (x x' y y' : T) {activity : Activity T E} → activity ≡ Holding t x → activity ≡ Holding t' x'
+      → ◌≡◌ {A = List (ℕ × Option T)} ((0, Some y) ∷ []) ((0, Some y') ∷ []) → ◌≡◌ {A = ℕ × T × T} (t, x, y) (t', x', y')
+  same_turn t t' x x' y y' a b c = let p : t ≡ t' = cc (a, b) in let q : x ≡ x' = cc (a, b) in
+      let d : ◌≡◌ {A = ℕ × Option T} (0, Some y) (0, Some y') = cc (c) in
+      let e : ◌≡◌ {A = Option T} (Some y) (Some y') = ap (λ (z : ℕ × Option T). z.1) d in
+      let o : y ≡ y' = cc (e) in λ i. (p i, q i, o i)
 
   -- where the pass has the value, it is away, and no other pass has it
-  away : (s : St) (r : R s) (id : ℕ) (v : V) (t n : ℕ) (origin : Root) → get_elem? s.views id ≡ some v
-      → v.activity ≡ Holding t n origin
+  away : (s : St) (r : R s) (id : ℕ) (v : V) (t : ℕ) (x : T) → get_elem? s.views id ≡ some v → v.activity ≡ Holding t x
       → Home list faults root first r.log s ⊎ Away list faults root first s → Away list faults root first s
-  away s r id v t n origin at has h =
+  away s r id v t x at has h =
       ⊎_elim (λ (a : Home list faults root first r.log s).
       absurd (let one : has_value v.activity ≡ 1 = ap has_value has in
       let q : has_value v.activity ≤ total (λ (z : V). has_value z.activity) s.views =
@@ -221,62 +219,66 @@ module _ {T E Root : Type 0} (list : T → List E) (faults : T → ℕ) (root : 
       let z = a.4 in omega arith))
       (λ (a : Away list faults root first s). a) h
 
-  no_other : (s : St) (id : ℕ) (v : V) (t n : ℕ) (origin : Root) → get_elem? s.views id ≡ some v
-      → v.activity ≡ Holding t n origin
+  no_other : (s : St) (id : ℕ) (v : V) (t : ℕ) (x : T) → get_elem? s.views id ≡ some v → v.activity ≡ Holding t x
       → total (λ (z : V). has_value z.activity) s.views ≡ 1
-      → (j : ℕ) (u : V) → j ≢ id → get_elem? s.views j ≡ some u → (k m : ℕ) (o : Root) → u.activity ≡ Holding k m o → ⊥
-  no_other s id v t n origin at has one j u ne a k m o is =
+      → (j : ℕ) (u : V) → j ≢ id → get_elem? s.views j ≡ some u → (k : ℕ) (y : T) → u.activity ≡ Holding k y → ⊥
+  no_other s id v t x at has one j u ne a k y is =
       let p : has_value v.activity ≡ 1 = ap has_value has in let q : has_value u.activity ≡ 1 = ap has_value is in
       let two : has_value u.activity + has_value v.activity ≤ total (λ (z : V). has_value z.activity) s.views =
       total_two (λ (z : V). has_value z.activity) s.views j id u v ne a at in omega arith
 
-  note_keeps : (s : St) (r : R s) (id : ℕ) (v : V) (t n : ℕ) (origin : Root) (x : T) (k : ℕ)
-      → get_elem? s.views id ≡ some v
-      → v.activity ≡ Holding t n origin → IsPrefix v.seen (list x) → n ≤ faults x → origin ≡ root x
-      → length v.seen + k ≡ length (list x) → length (list x) < 2 ^ 64
+  note_keeps : (s : St) (r : R s) (id : ℕ) (v : V) (t : ℕ) (x y : T) (k : ℕ) → get_elem? s.views id ≡ some v
+      → v.activity ≡ Holding t x → IsPrefix v.seen (list y) → faults x ≤ faults y → root x ≡ root y
+      → length v.seen + k ≡ length (list y) → length (list y) < 2 ^ 64
       → R record {
         words = set s.words 2 ((get_or s.words 2 0 + k) % 2 ^ 64);
         homes = s.homes;
-        views = set s.views id (noted_at list faults root t n v x);
+        views = set s.views id (noted_at list faults t v x y);
       }
-  note_keeps s r id v t n origin x k at has seen le kept len small =
-      let w : V = noted_at list faults root t n v x in
+  note_keeps s r id v t x y k at has seen le kept len small =
+      let w : V = noted_at list faults t v x y in
       let f = r.each id v at in
-      let mine = served start r.log r.serving (Up s.views) v t n origin has f in
+      let mine = served start r.log r.serving (Up s.views) v t x has f in
       let vs' = set s.views id w in
-      let out = away s r id v t n origin at has r.value in
-      let group : List E = drop (length v.seen) (list x) in
-      let flag = has_risen n (faults x) in
-      let turn : Turn E = turn_at (length v.seen) group n (faults x) in
-      let grows : IsPrefix r.log (list x) = subst (λ z. IsPrefix z (list x)) mine.1 seen in
+      let out = away s r id v t x at has r.value in
+      let group : List E = drop (length v.seen) (list y) in
+      let flag = has_risen (faults x) (faults y) in
+      let turn : Turn T E = turn_at (length v.seen) group (faults x) (faults y) x y in
+      let grows : IsPrefix r.log (list y) = subst (λ z. IsPrefix z (list y)) mine.1 seen in
       let seen_length : length v.seen ≡ length r.log = ap length mine.1 in
       let begun : start ≤ length r.log = prefix_length (list first) r.log r.begins in
-      let longer : length r.log ≤ length (list x) = prefix_length r.log (list x) grows in
-      let glen : length group ≡ length (list x) - length v.seen = length-drop (length v.seen) (list x) in
+      let longer : length r.log ≤ length (list y) = prefix_length r.log (list y) grows in
+      let glen : length group ≡ length (list y) - length v.seen = length-drop (length v.seen) (list y) in
       let here : get_or s.words 2 0 ≡ length r.log = ap (λ (ws : List ℕ). get_or ws 2 0) r.words in
-      let now : (get_or s.words 2 0 + k) % 2 ^ 64 ≡ length (list x) =
-      (let e : get_or s.words 2 0 + k ≡ length (list x) = omega arith in
+      let now : (get_or s.words 2 0 + k) % 2 ^ 64 ≡ length (list y) =
+      (let e : get_or s.words 2 0 + k ≡ length (list y) = omega arith in
       let q : (get_or s.words 2 0 + k) % 2 ^ 64 ≡ get_or s.words 2 0 + k = mod-eq_of_lt (omega arith) in q ∙ e) in
       let more : total (λ (u : V). marks u.mine) vs' + marks v.mine ≡ total (λ (u : V). marks u.mine) s.views
       + marks w.mine =
       total_set (λ (u : V). marks u.mine) s.views id v w at in
       let mark : marks w.mine ≡ marks v.mine + (if flag then 1 else 0) =
       (let a : marks (v.mine ++ turn ∷ []) ≡ marks v.mine + ((if flag then 1 else 0) + 0) =
-      total_append (λ (z : Turn E). if z.marked then 1 else 0) v.mine (turn ∷ []) in omega arith) in
-      let up : Up vs' (faults x) (root x) = record {
+      total_append (λ (z : Turn T E). if z.marked then 1 else 0) v.mine (turn ∷ []) in omega arith) in
+      let up : Up vs' y = record {
         stays = sym kept ∙ mine.2.stays;
+        reached = reached_next (IsMade vs') first turn
+            (any_at (λ (u : V). Among u.mine turn) vs' id w (set_at s.views id v w at)
+            (any_right (λ (z : Turn T E). turn ≡ z) v.mine (turn ∷ []) (inl refl)))
+            (reached_on (IsMade s.views) (IsMade vs') first x
+            (λ z a. made_set s.views id v w z at (any_left (λ (c : Turn T E). z ≡ c) v.mine (turn ∷ [])) a)
+            mine.2.reached);
         marks =
-            (let h =
-            marked_more (faults first + total (λ (u : V). marks u.mine) s.views) n (faults x) le mine.2.marks in
-            ⊎_elim (λ (a : faults first + total (λ (u : V). marks u.mine) s.views + (if flag then 1 else 0) ≤ faults x).
+            (let h = marked_more (faults first + total (λ (u : V). marks u.mine) s.views) (faults x) (faults y) le
+            mine.2.marks in
+            ⊎_elim (λ (a : faults first + total (λ (u : V). marks u.mine) s.views + (if flag then 1 else 0) ≤ faults y).
             inl (omega arith))
-            (λ (a : last_count ≤ faults x). inr a) h);
+            (λ (a : last_count ≤ faults y). inr a) h);
         count = (let h = mine.2.count in
             let c : total (λ (u : V). rises u.mine) vs' + rises v.mine ≡ total (λ (u : V). rises u.mine) s.views
             + rises w.mine =
             total_set (λ (u : V). rises u.mine) s.views id v w at in
-            let up : rises w.mine ≡ rises v.mine + (faults x - n + 0) =
-            total_append (λ (z : Turn E). z.rise) v.mine (turn ∷ []) in omega arith);
+            let up : rises w.mine ≡ rises v.mine + (faults y - faults x + 0) =
+            total_append (λ (z : Turn T E). z.rise) v.mine (turn ∷ []) in omega arith);
       } in
       let one : total (λ (u : V). has_value u.activity) vs' ≡ 1 =
       (let a : has_value v.activity ≡ 1 = ap has_value has in let b = out.1 in
@@ -284,7 +286,7 @@ module _ {T E Root : Type 0} (list : T → List E) (faults : T → ℕ) (root : 
       ≡ total (λ (u : V). has_value u.activity) s.views + 1 =
       total_set (λ (u : V). has_value u.activity) s.views id v w at in omega arith) in
       let alive = alive_share v (λ idle. absurd (cc (idle, has))) f.alive in
-      change list faults root first s r id v w at (list x) r.ticket r.serving
+      change list faults root first s r id v w at (list y) r.ticket r.serving
       (set s.words 2 ((get_or s.words 2 0 + k) % 2 ^ 64)) s.homes
       (ap (λ (ws : List ℕ). set ws 2 ((get_or s.words 2 0 + k) % 2 ^ 64)) r.words
       ∙ ap (λ (z : ℕ). r.ticket ∷ r.serving ∷ z ∷ []) now)
@@ -293,47 +295,46 @@ module _ {T E Root : Type 0} (list : T → List E) (faults : T → ℕ) (root : 
       (λ j. (let a : holds_ticket j v.activity ≡ within t (t + 1) j = ap (holds_ticket j) has in omega arith))
       refl
       (omega arith)
-      (λ j. (let a : within start (length r.log) j + within (length r.log) (length (list x)) j
-      ≡ within start (length (list x)) j =
-      within_join start (length r.log) (length (list x)) j begun longer in
+      (λ j. (let a : within start (length r.log) j + within (length r.log) (length (list y)) j
+      ≡ within start (length (list y)) j =
+      within_join start (length r.log) (length (list y)) j begun longer in
       let b : groups_with j (v.mine ++ turn ∷ []) ≡ groups_with j v.mine
       + (within (length v.seen) (length v.seen + length group) j + 0) =
-      total_append (λ (z : Turn E). within z.place (end_of z) j) v.mine (turn ∷ []) in
-      let c : within (length v.seen) (length v.seen + length group) j ≡ within (length r.log) (length (list x)) j =
+      total_append (λ (z : Turn T E). within z.place (end_of z) j) v.mine (turn ∷ []) in
+      let c : within (length v.seen) (length v.seen + length group) j ≡ within (length r.log) (length (list y)) j =
       ap (λ (z : ℕ × ℕ). within z.0 z.1 j)
-      (λ i. (seen_length i, (let e : length v.seen + length group ≡ length (list x) = omega arith in e) i)) in
+      (λ i. (seen_length i, (let e : length v.seen + length group ≡ length (list y) = omega arith in e) i)) in
       omega arith))
       (record {
-        seen = prefix_self (list x);
+        seen = prefix_self (list y);
         few = f.few;
-        stand = every_snoc (StandsIn (list x)) v.mine turn (every_longer v.seen (list x) v.mine seen f.stand)
-            (v.seen, refl, ([], append-nil (v.seen ++ group) ∙ prefix_drop v.seen (list x) seen));
+        stand = every_snoc (StandsIn (list y)) v.mine turn (every_longer v.seen (list y) v.mine seen f.stand)
+            (v.seen, refl, ([], append-nil (v.seen ++ group) ∙ prefix_drop v.seen (list y) seen));
         sorted = snoc_in_order v.mine turn f.sorted (places_below v.seen v.mine f.stand);
         activity = (mine.0, refl, up);
         alive = inl (alive.0, (let a = alive.1 in omega arith));
       })
-      (λ j u ne a i m o is g. absurd (no_other s id v t n origin at has out.1 j u ne a i m o is))
+      (λ j u ne a i z is g. absurd (no_other s id v t x at has out.1 j u ne a i z is))
       alive.0
       (λ whole outside. absurd outside)
       (inr (out.0, one))
 
-  notes_at : (slots id : ℕ) (v : V) (t n : ℕ) (origin : Root) (x : T) (k : ℕ) → v.activity ≡ Holding t n origin
-      → IsPrefix v.seen (list x)
-      → n ≤ faults x → origin ≡ root x
-      → length v.seen + k ≡ length (list x) → length (list x) < 2 ^ 64
-      → Allows R slots id (v, (0, Some x) ∷ []) 2 (λ m. (m + k) % 2 ^ 64)
-      (Noted list faults root (step slots 2 k 0 none) (v, (0, Some x) ∷ []))
-  notes_at slots id v t n origin x k has seen le kept len small s r _ at _ = (
-    noted_at list faults root t n v x,
+  notes_at : (slots id : ℕ) (v : V) (t : ℕ) (x y : T) (k : ℕ) → v.activity ≡ Holding t x → IsPrefix v.seen (list y)
+      → faults x ≤ faults y → root x ≡ root y
+      → length v.seen + k ≡ length (list y) → length (list y) < 2 ^ 64
+      → Allows R slots id (v, (0, Some y) ∷ []) 2 (λ m. (m + k) % 2 ^ 64)
+      (Noted list faults (step slots 2 k 0 none) (v, (0, Some y) ∷ []))
+  notes_at slots id v t x y k has seen le kept len small s r _ at _ = (
+    noted_at list faults t v x y,
     keeps,
     tt,
-    note_keeps s r id v t n origin x k at has seen le kept len small,
-    λ t' n' origin' y has' is. ap (λ (z : ℕ × ℕ × T). (noted_at list faults root z.0 z.1 v z.2, (0, Some x) ∷ []))
-        (same_turn t n t' n' origin origin' x y has has' is),
+    note_keeps s r id v t x y k at has seen le kept len small,
+    λ t' x' y' has' is. ap (λ (z : ℕ × T × T). (noted_at list faults z.0 v z.1 z.2, (0, Some y) ∷ []))
+        (same_turn t t' x x' y y' has has' is),
   )
 
   next_keeps : (s : St) (r : R s) (id : ℕ) (v : V) (t : ℕ) (x : T) → get_elem? s.views id ≡ some v
-      → v.activity ≡ Holding t (faults x) (root x)
+      → v.activity ≡ Holding t x
       → list x ≡ v.seen → v.left ≡ Some x
       → R record {
         words = set s.words 1 ((get_or s.words 1 0 + 1) % 2 ^ 64);
@@ -343,9 +344,9 @@ module _ {T E Root : Type 0} (list : T → List E) (faults : T → ℕ) (root : 
   next_keeps s r id v t x at has stands left =
       let w : V = record v { activity = Idle } in
       let f = r.each id v at in
-      let mine = served start r.log r.serving (Up s.views) v t (faults x) (root x) has f in
+      let mine = served start r.log r.serving (Up s.views) v t x has f in
       let vs' = set s.views id w in
-      let out = away s r id v t (faults x) (root x) at has r.value in
+      let out = away s r id v t x at has r.value in
       let same = alike_set list faults root first s.views id v w at refl in
       let nobody : total (λ (u : V). has_value u.activity) vs' ≡ 0 =
       (let a : has_value v.activity ≡ 1 = ap has_value has in let b = out.1 in
@@ -385,7 +386,7 @@ module _ {T E Root : Type 0} (list : T → List E) (faults : T → ℕ) (root : 
         activity = tt;
         alive = inl (alive_share v (λ idle. absurd (cc (idle, has))) f.alive);
       })
-      (λ j u ne a i m o is g. absurd (no_other s id v t (faults x) (root x) at has out.1 j u ne a i m o is))
+      (λ j u ne a i z is g. absurd (no_other s id v t x at has out.1 j u ne a i z is))
       (alive_share v (λ idle. absurd (cc (idle, has))) f.alive).0
       (λ whole outside. subst (λ (o : Option T).
       IfSome o (λ value. set s.homes 0 (some (Some x)) ≡ some (Some value) ∷ [])) (sym left)
@@ -395,11 +396,11 @@ module _ {T E Root : Type 0} (list : T → List E) (faults : T → ℕ) (root : 
         ap (λ hs. set hs 0 (some (Some x))) out.0,
         stands
             ∙ mine.1,
-        risen_same list faults root first s.views vs' (faults x) (root x) same mine.2,
+        risen_same list faults root first s.views vs' x same mine.2,
         nobody,
       ))
 
-  goes_on_at : (slots id : ℕ) (v : V) (t : ℕ) (x : T) → v.activity ≡ Holding t (faults x) (root x) → list x ≡ v.seen
+  goes_on_at : (slots id : ℕ) (v : V) (t : ℕ) (x : T) → v.activity ≡ Holding t x → list x ≡ v.seen
       → v.left ≡ Some x
       → Allows R slots id (v, (0, Some x) ∷ []) 1 (λ m. (m + 1) % 2 ^ 64)
       (WentOn (step slots 1 1 0 none) (v, (0, Some x) ∷ []))
@@ -412,23 +413,22 @@ module _ {T E Root : Type 0} (list : T → List E) (faults : T → ℕ) (root : 
   )
 
   pub looks : (slots id : ℕ) (me : Me (Option T) V) (t : ℕ) → me.0.activity ≡ Waiting t → me.1 ≡ []
-      → Allows R slots id me 1 (λ n. n) (Looked list faults root (step slots 1 0 0 none) me)
+      → Allows R slots id me 1 (λ n. n) (Looked list (step slots 1 0 0 none) me)
   looks slots id me t waits held =
       subst (λ (m : Me (Option T) V). Allows R slots id m 1 (λ n. n)
-      (Looked list faults root (step slots 1 0 0 none) m))
+      (Looked list (step slots 1 0 0 none) m))
       (λ i. (me.0, sym held i)) (looks_at slots id me.0 t waits)
 
-  pub notes : (slots id : ℕ) (me : Me (Option T) V) (t n : ℕ) (origin : Root) (x : T) (k : ℕ)
-      → me.0.activity ≡ Holding t n origin
-      → me.1 ≡ (0, Some x) ∷ [] → IsPrefix me.0.seen (list x) → n ≤ faults x → origin ≡ root x
-      → length me.0.seen + k ≡ length (list x) → length (list x) < 2 ^ 64
-      → Allows R slots id me 2 (λ m. (m + k) % 2 ^ 64) (Noted list faults root (step slots 2 k 0 none) me)
-  notes slots id me t n origin x k has held seen le kept len small =
+  pub notes : (slots id : ℕ) (me : Me (Option T) V) (t : ℕ) (x y : T) (k : ℕ) → me.0.activity ≡ Holding t x
+      → me.1 ≡ (0, Some y) ∷ [] → IsPrefix me.0.seen (list y) → faults x ≤ faults y → root x ≡ root y
+      → length me.0.seen + k ≡ length (list y) → length (list y) < 2 ^ 64
+      → Allows R slots id me 2 (λ m. (m + k) % 2 ^ 64) (Noted list faults (step slots 2 k 0 none) me)
+  notes slots id me t x y k has held seen le kept len small =
       subst (λ (m : Me (Option T) V). Allows R slots id m 2 (λ m. (m + k) % 2 ^ 64)
-      (Noted list faults root (step slots 2 k 0 none) m)) (λ i. (me.0, sym held i))
-      (notes_at slots id me.0 t n origin x k has seen le kept len small)
+      (Noted list faults (step slots 2 k 0 none) m)) (λ i. (me.0, sym held i))
+      (notes_at slots id me.0 t x y k has seen le kept len small)
 
-  pub goes_on : (slots id : ℕ) (me : Me (Option T) V) (t : ℕ) (x : T) → me.0.activity ≡ Holding t (faults x) (root x)
+  pub goes_on : (slots id : ℕ) (me : Me (Option T) V) (t : ℕ) (x : T) → me.0.activity ≡ Holding t x
       → me.1 ≡ (0, Some x) ∷ []
       → list x ≡ me.0.seen → me.0.left ≡ Some x
       → Allows R slots id me 1 (λ m. (m + 1) % 2 ^ 64) (WentOn (step slots 1 1 0 none) me)
@@ -445,40 +445,38 @@ module _ {T E Root : Type 0} (list : T → List E) (faults : T → ℕ) (root : 
 
   pub notes_from : (slots id : ℕ) (me : Me (Option T) V) (v : V) (t : ℕ) (x y : T) (before after : ℕ)
       → me ≡ (
-        record v { turns = v.turns + 1; seen = list x; activity = Holding t (faults x) (root x) },
+        record v { turns = v.turns + 1; seen = list x; activity = Holding t x },
         (0, Some y) ∷ [],
       )
       → IsPrefix (list x) (list y) → faults x ≤ faults y → root x ≡ root y → before ≡ length (list x)
       → after ≡ length (list y) → after < 2 ^ 64
       → Allows R slots id me 2 (λ m. (m + (after - before)) % 2 ^ 64)
-      (Noted list faults root (step slots 2 (after - before) 0 none) me)
+      (Noted list faults (step slots 2 (after - before) 0 none) me)
   notes_from slots id me v t x y before after is grows le kept b a small =
       let longer : length (list x) ≤ length (list y) = prefix_length (list x) (list y) grows in
       let seen : length me.0.seen ≡ length (list x) = ap (λ (m : Me (Option T) V). length m.0.seen) is in
-      notes slots id me t (faults x) (root x) y (after - before) (ap (λ (m : Me (Option T) V). m.0.activity) is)
+      notes slots id me t x y (after - before) (ap (λ (m : Me (Option T) V). m.0.activity) is)
       (ap (λ (m : Me (Option T) V). m.1) is)
       (subst (λ (m : Me (Option T) V). IsPrefix m.0.seen (list y)) (sym is) grows) le kept (omega arith) (omega arith)
 
   pub noted_from : (me next : Me (Option T) V) (v : V) (t k slots found : ℕ) (x y : T)
       → me ≡ (
-        record v { turns = v.turns + 1; seen = list x; activity = Holding t (faults x) (root x) },
+        record v { turns = v.turns + 1; seen = list x; activity = Holding t x },
         (0, Some y) ∷ [],
       )
-      → Noted list faults root (step slots 2 k 0 none) me found next
+      → Noted list faults (step slots 2 k 0 none) me found next
       → next ≡ (
-        record (after_turn v y (list x) (list y) (faults x) (faults y))
-            { activity = Holding t (faults y) (root y) },
+        record (after_turn v x y (list x) (list y) (faults x) (faults y)) { activity = Holding t y },
         (0, Some y) ∷ [],
       )
   noted_from me next v t k slots found x y is told =
-      told t (faults x) (root x) y (ap (λ (m : Me (Option T) V). m.0.activity) is)
+      told t x y (ap (λ (m : Me (Option T) V). m.0.activity) is)
       (ap (λ (m : Me (Option T) V). m.1) is)
-      ∙ ap (λ (m : Me (Option T) V). (noted_at list faults root t (faults x) m.0 y, m.1)) is
+      ∙ ap (λ (m : Me (Option T) V). (noted_at list faults t m.0 x y, m.1)) is
 
   pub goes_on_from : (slots id : ℕ) (me : Me (Option T) V) (v : V) (t : ℕ) (x y : T)
       → me ≡ (
-        record (after_turn v y (list x) (list y) (faults x) (faults y))
-            { activity = Holding t (faults y) (root y) },
+        record (after_turn v x y (list x) (list y) (faults x) (faults y)) { activity = Holding t y },
         (0, Some y) ∷ [],
       )
       → Allows R slots id me 1 (λ m. (m + 1) % 2 ^ 64) (WentOn (step slots 1 1 0 none) me)
@@ -489,17 +487,16 @@ module _ {T E Root : Type 0} (list : T → List E) (faults : T → ℕ) (root : 
   -- after next the pass rests
   pub went_from : (me end : Me (Option T) V) (v : V) (t slots found : ℕ) (x y : T) → v.activity ≡ Idle
       → me ≡ (
-        record (after_turn v y (list x) (list y) (faults x) (faults y))
-            { activity = Holding t (faults y) (root y) },
+        record (after_turn v x y (list x) (list y) (faults x) (faults y)) { activity = Holding t y },
         (0, Some y) ∷ [],
       )
       → WentOn (step slots 1 1 0 none) me found end
-      → (end ≡ (after_turn v y (list x) (list y) (faults x) (faults y), [])) × Every (StandsIn end.0.seen) end.0.mine
+      → (end ≡ (after_turn v x y (list x) (list y) (faults x) (faults y), [])) × Every (StandsIn end.0.seen) end.0.mine
   went_from me end v t slots found x y idle is told = (
     told.0 ∙ (ap (λ (m : Me (Option T) V). (record m.0 { activity = Idle }, [])) is
         ∙ ap
-        (λ (r : Activity E Root). (
-          record (after_turn v y (list x) (list y) (faults x) (faults y)) { activity = r },
+        (λ (r : Activity T E). (
+          record (after_turn v x y (list x) (list y) (faults x) (faults y)) { activity = r },
           [],
         )) (sym idle)),
     subst (λ (m : Me (Option T) V). Every (StandsIn m.0.seen) m.0.mine) (sym told.0) told.1,

@@ -1,8 +1,8 @@
 -- What the value is when the lock is closed.
 use Rattle.std.specs.Prelude.{◌≡◌, ℕ, ◌+◌, ◌≤◌, ◌⊎◌, List, ◌++◌, length, IfSome}
 use mathlib.Core.List.{IsPrefix}
-use Rattle.cr_lock.specs.Counts.{last_count, within}
-use Rattle.cr_lock.specs.Turns.{groups_with, marks, rises, groups_of}
+use Rattle.cr_lock.specs.Counts.{last_count, within, Among}
+use Rattle.cr_lock.specs.Turns.{groups_with, marks, rises, groups_of, Reached}
 use Rattle.cr_lock.specs.Passes.{Known, Stand}
 
 -- x is the value of a lock that was made with `first`, and p the one pass that is left
@@ -24,5 +24,7 @@ module _ {T E Root : Type 0} (list : T → List E) (faults : T → ℕ) (root_of
     pub marks : (faults first + marks p.mine ≤ faults x) ⊎ (last_count ≤ faults x)
     -- the root of the value is that of the first one
     pub root : root_of x ≡ root_of first
+    -- the turns lead from the first value to this one, each from what another left
+    pub reached : Reached (Among p.mine) first x
     -- the value is as the pass left it, unless that was split or joined since
     pub left : IfSome p.left (λ value. x ≡ value)

@@ -1,5 +1,5 @@
 -- Numbers, sums over lists, and the count of faults.
-use Rattle.std.specs.Prelude.{ℕ, ◌+◌, Bool, ◌&&◌, ◌||◌, nat_lt, nat_le, if◌then◌else◌, List, [], ◌∷◌}
+use Rattle.std.specs.Prelude.{◌≡◌, ◌⊎◌, ℕ, ◌+◌, Bool, ◌&&◌, ◌||◌, nat_lt, nat_le, if◌then◌else◌, List, [], ◌∷◌}
 
 -- the maximum of a fault counter, that of a `u64`, from which it can't rise
 abbrev pub last_count : ℕ
@@ -22,3 +22,12 @@ total f (x ∷ xs) = f x + total f xs
 abbrev pub Every : {X : Type 0} → (X → Type 0) → List X → Type 0
 Every P [] = Unit {0}
 Every P (x ∷ xs) = P x × Every P xs
+
+-- P holds of one of them
+abbrev pub Any : {X : Type 0} → (X → Type 0) → List X → Type 0
+Any P [] = ⊥
+Any P (x ∷ xs) = P x ⊎ Any P xs
+
+-- x is one of them
+abbrev pub Among : {X : Type 0} → List X → X → Type 0
+Among xs x = Any (λ y. x ≡ y) xs

@@ -19,11 +19,11 @@ pub record Known (T E : Type 0) : Type 0 where
   pub share : ℕ
   pub turns : ℕ
   pub seen : List E
-  pub mine : List (Turn E)
+  pub mine : List (Turn T E)
   pub left : Option T
 
 -- what is shown of a pass's seat
-abbrev pub known_of : {T E Root : Type 0} → Seat (Option T) (PassState T E Root) → Known T E
+abbrev pub known_of : {T E : Type 0} → Seat (Option T) (PassState T E) → Known T E
 known_of seat = record {
   lock = seat.table_id;
   share = seat.me.0.share;
@@ -61,13 +61,13 @@ module _ {T E : Type 0} where
   abbrev pub IsAsLeft : Known T E → T → Type 0
   IsAsLeft p x = p.share ≡ 64 → IfSome p.left (λ value. x ≡ value)
 
-  -- after a turn that left the value y, which stood for the list xs and stands for ys, and whose count of faults went
-  -- from m to n
-  abbrev pub after_turn : Known T E → T → List E → List E → ℕ → ℕ → Known T E
-  after_turn p y xs ys m n = record p {
+  -- after a turn that found the value x and left y: it stood for the list xs and stands for ys, and its count of faults
+  -- went from m to n
+  abbrev pub after_turn : Known T E → T → T → List E → List E → ℕ → ℕ → Known T E
+  after_turn p x y xs ys m n = record p {
     turns = p.turns + 1;
     seen = ys;
-    mine = p.mine ++ turn_at (length xs) (drop (length xs) ys) m n ∷ [];
+    mine = p.mine ++ turn_at (length xs) (drop (length xs) ys) m n x y ∷ [];
     left = Some y;
   }
 

@@ -7,12 +7,14 @@
 //! # Proved
 //!
 //! - A turn is at one place of the one history: the pass had seen a beginning of it, what the act promises holds, and
-//!   the pass gains a turn. That has the place, the group added, how much the fault counter grew, and a mark if it
-//!   rose: `turn` (`turn`).
+//!   the pass gains a turn. That has the place, the group added, how much the fault counter grew, a mark if it rose,
+//!   and the value as it was found and left: `turn` (`turn`).
 //! - A pass with the whole share that was never split finds the value that its last turn left: `turn` (`IsAsLeft`).
 //! - A pass is split and joined without loss: `split`, `join` (`both`, `agree`).
 //! - At the end every entry is in exactly one group of one turn, and the root is unchanged. The counter rose by what
 //!   it rose in the turns: by at least one a mark, its maximum aside: `close`.
+//! - Turns lead from the first value to the last: each found what another left. So what holds of the first, and each
+//!   turn keeps, holds of the last: `close`, `Reached`.
 //!
 //! # Tested
 //!

@@ -67,12 +67,7 @@ const WHOLE: u64 = 64;
 const LOOKS: u32 = 64;
 
 /// The words and the slot, as the passes step on them.
-type Board<T> = Shared<
-    Option<T>,
-    PassState<T, <T as Stands>::Entry, <T as Stands>::Root>,
-    Snapshot<T>,
-    HistoryRule<T>,
->;
+type Board<T> = Shared<Option<T>, PassState<T, <T as Stands>::Entry>, Snapshot<T>, HistoryRule<T>>;
 
 /// One value, with which passes take turns.
 ///
@@ -82,7 +77,7 @@ type Board<T> = Shared<
 /// knows is in its [`Pass`]. The crate's page tells a turn step by step.
 #[derive(Drop)]
 pub struct HistoryLock<T: Stands> {
-    table: Table<Option<T>, PassState<T, T::Entry, T::Root>, Snapshot<T>, HistoryRule<T>, Global>,
+    table: Table<Option<T>, PassState<T, T::Entry>, Snapshot<T>, HistoryRule<T>, Global>,
     // Where passes wait. Who has it draws a ticket and makes the turn, so each ticket is
     // served as soon as it is drawn.
     gate: Mutex<()>,
@@ -120,7 +115,7 @@ fn one_slot<T>(alloc: Global, value: T) -> Result<Vec<Option<T>, Global>, T>
 fn wait_and_take<T: Stands, R: Wait>(
     rt: &R,
     shared: &Board<T>,
-    seat: &mut Seat<Option<T>, PassState<T, T::Entry, T::Root>>,
+    seat: &mut Seat<Option<T>, PassState<T, T::Entry>>,
 ) -> T
     requires own { (seat.old.table_id ≡ shared.now.table_id) × (seat.old.me.1 ≡ []) × (shared.now.table_id.words ≡ 3) }
     requires rests { ((state seat.old).activity ≡ Idle) × (0 < (state seat.old).share)
@@ -129,7 +124,7 @@ fn wait_and_take<T: Stands, R: Wait>(
     ensures state { (t : ℕ) × (state seat.new ≡ record (state seat.old) {
       turns = (state seat.old).turns + 1;
       seen = T.list result;
-      activity = Holding t (T.faults result) (T.root result);
+      activity = Holding t result;
     }) }
     ensures seen { IsPrefix (state seat.old).seen (T.list result) }
     ensures as_left { (state seat.old).share ≡ 64 → IfSome (state seat.old).left (λ value. result ≡ value) }
@@ -212,9 +207,10 @@ impl<T: Stands> HistoryLock<T> {
     /// The act is lent a value `x` whose history begins with what the pass had seen, and leaves a value `y`. It may
     /// only append to the list, may not lower the fault counter, and leaves the root unchanged. What it promises of
     /// `x`, `y` and its answer holds. The pass has then seen the history of `y`, and its turns are longer by one: the
-    /// length of the history at `x`, what was added, by how much the fault counter rose, and the mark, set exactly if
-    /// it rose or is at its maximum. If the pass has the whole share, so that there is no other, `x` is the value that
-    /// it left in its last turn, or that the lock was made with, unless it was split or joined since.
+    /// length of the history at `x`, what was added, by how much the fault counter rose, the mark, set exactly if it
+    /// rose or is at its maximum, and `x` and `y` themselves. If the pass has the whole share, so that there is no
+    /// other, `x` is the value that it left in its last turn, or that the lock was made with, unless it was split or
+    /// joined since.
     ///
     /// A pass makes fewer than 2^40 turns, so all passes together draw fewer tickets than a word can count.
     ///
@@ -234,7 +230,7 @@ impl<T: Stands> HistoryLock<T> {
             × IsAsLeft pass.old x
             × IsPrefix (T.list x) (T.list y)
             × FnOnceReturnsAtMut F.FnOnce act x result y
-            × (pass.new ≡ after_turn pass.old y (T.list x) (T.list y) (T.faults x) (T.faults y)) }
+            × (pass.new ≡ after_turn pass.old x y (T.list x) (T.list y) (T.faults x) (T.faults y)) }
         ensures stand { Stand pass.new }
     {
         let shared = &self.table.shared;
@@ -332,6 +328,7 @@ impl<T: Stands> HistoryLock<T> {
     /// Its history is what the pass has seen. The groups of the pass's turns, in their order, are what came after the
     /// first list, each entry once. The fault counter rose by exactly what it rose in the turns, and so by no less
     /// than there are marks, unless it ends at its maximum. The root is that of the value that the lock was made with.
+    /// Turns lead from that value to this one: the first found it, and each other one what the one before it had left.
     pub fn close(self, pass: Pass<T>) -> T
         requires own { pass.lock ≡ self.lock }
         requires whole { pass.share ≡ 64 }

@@ -11,10 +11,11 @@ use std::marker::Model;
 ///
 /// The `lock` that it is of; its `share` of 64, which `split` halves and `join` adds up; how many `turns` it has made;
 /// the history as it last saw it, `seen`; and its own turns in that history, `mine`, each with its place, the group
-/// that it added, and a mark if the fault counter rose. Only two counts exist at run time.
+/// that it added, a mark if the fault counter rose, and the value as it found it and as it left it. Only two counts
+/// exist at run time.
 #[derive(Drop)]
 pub struct Pass<T: Stands> {
-    pub(crate) seat: Seat<Option<T>, PassState<T, T::Entry, T::Root>>,
+    pub(crate) seat: Seat<Option<T>, PassState<T, T::Entry>>,
     pub(crate) share: u64,
     pub(crate) turns: u64,
 }

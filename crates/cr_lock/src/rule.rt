@@ -11,8 +11,7 @@ pub(crate) struct HistoryRule<T> {
     of: PhantomData<T>,
 }
 
-impl<T: Stands> TableRule<Option<T>, PassState<T, T::Entry, T::Root>, Snapshot<T>>
-    for HistoryRule<T> {
+impl<T: Stands> TableRule<Option<T>, PassState<T, T::Entry>, Snapshot<T>> for HistoryRule<T> {
     ghost use Rattle.cr_lock.specs.PassStates.{first_state};
     ghost use Rattle.cr_lock.specs.Rule.{OneHistory};
 

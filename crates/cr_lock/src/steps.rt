@@ -10,7 +10,7 @@ use std::marker::PhantomData;
 /// Draws a ticket: `fetch_add` on the tickets.
 pub(crate) struct DrawTicket;
 
-impl<T, E, R> Play<Option<T>, PassState<T, E, R>> for DrawTicket {
+impl<T, E> Play<Option<T>, PassState<T, E>> for DrawTicket {
     ghost then = { Drew };
 }
 
@@ -19,8 +19,8 @@ pub(crate) struct LookForTurn<T> {
     of: PhantomData<T>,
 }
 
-impl<T: Stands> Play<Option<T>, PassState<T, T::Entry, T::Root>> for LookForTurn<T> {
-    ghost then = { Looked T.list T.faults T.root };
+impl<T: Stands> Play<Option<T>, PassState<T, T::Entry>> for LookForTurn<T> {
+    ghost then = { Looked T.list };
 }
 
 /// Notes what the turn added: `fetch_add` on the count of entries. The history grows here and nowhere else.
@@ -28,28 +28,28 @@ pub(crate) struct Note<T> {
     of: PhantomData<T>,
 }
 
-impl<T: Stands> Play<Option<T>, PassState<T, T::Entry, T::Root>> for Note<T> {
-    ghost then = { Noted T.list T.faults T.root };
+impl<T: Stands> Play<Option<T>, PassState<T, T::Entry>> for Note<T> {
+    ghost then = { Noted T.list T.faults };
 }
 
 /// Serves the next ticket: `fetch_add` on the ticket that is served.
 pub(crate) struct Next;
 
-impl<T, E, R> Play<Option<T>, PassState<T, E, R>> for Next {
+impl<T, E> Play<Option<T>, PassState<T, E>> for Next {
     ghost then = { WentOn };
 }
 
 /// Looks after a join: a load, by which the pass learns what the two had in common.
 pub(crate) struct LookAfterJoin;
 
-impl<T, E, R> Play<Option<T>, PassState<T, E, R>> for LookAfterJoin {
+impl<T, E> Play<Option<T>, PassState<T, E>> for LookAfterJoin {
     ghost then = { LookedAfterJoin };
 }
 
 /// Cuts a pass in two.
 pub(crate) struct Halve;
 
-impl<T, E, R> Split<PassState<T, E, R>> for Halve {
+impl<T, E> Split<PassState<T, E>> for Halve {
     ghost left = { left_half };
 
     ghost right = { right_half };
@@ -58,7 +58,7 @@ impl<T, E, R> Split<PassState<T, E, R>> for Halve {
 /// Makes two passes one.
 pub(crate) struct Unite;
 
-impl<T, E, R> Join<PassState<T, E, R>> for Unite {
+impl<T, E> Join<PassState<T, E>> for Unite {
     ghost both = { joining };
 
     ghost spent = { spent_state };

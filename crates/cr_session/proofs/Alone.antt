@@ -14,7 +14,7 @@ use Rattle.cr_lock.proofs.Prefixes.{prefix_self, prefix_length, prefix_drop, pre
 use Rattle.cr_session.specs.Replay.{JudgedWish, Ledger, Turned, CountsLoss, history_after, Replays, lost_count}
 use Rattle.cr_book.specs.Seen.{SeenBook}
 use Rattle.cr_session.specs.Tries.{Tries, Nothing, TriesWish, TriesAlong}
-use Rattle.cr_session.specs.Passing.{KnownPass, TakesTurn, TakesTurns}
+use Rattle.cr_session.specs.Passing.{BookTurn, KnownPass, TakesTurn, TakesTurns}
 use Rattle.cr_session.specs.Turning.{TurnsInVain}
 use Rattle.cr_wire.specs.declared.what.Wish.{Wish}
 use Rattle.cr_session.proofs.Passes.{after-begins, marks-snoc, marked_losses}
@@ -25,7 +25,8 @@ use Rattle.cr_session.proofs.Passes.{after-begins, marks-snoc, marked_losses}
 abbrev grown : {K : Type 0} → KnownPass K → ℕ
 grown p = length (groups_of p.mine)
 
-groups-snoc : (ts : List (Turn Stamped)) (t : Turn Stamped) → groups_of (ts ++ t ∷ []) ≡ groups_of ts ++ t.group
+groups-snoc : {T : Type 0} (ts : List (Turn T Stamped)) (t : Turn T Stamped)
+    → groups_of (ts ++ t ∷ []) ≡ groups_of ts ++ t.group
 groups-snoc [] t = append-nil t.group
 groups-snoc (u ∷ us) t = ap (λ g. u.group ++ g) (groups-snoc us t) ∙ sym (append_assoc u.group (groups_of us) t.group)
 
@@ -37,7 +38,7 @@ module _ {K : Type 0} (tries : Tries K) where
       let group : History = drop (length j.seen) (history_after j) in
       let a : grown q ≡ length (groups_of p.mine ++ group) =
       ap (λ (x : KnownPass K). grown x) t.turn
-      ∙ ap length (groups-snoc p.mine (turn_at (length j.seen) group t.faults t.faults')) in
+      ∙ ap length (groups-snoc p.mine (turn_at (length j.seen) group t.faults t.faults' t.found t.leaves)) in
       let b : length (groups_of p.mine ++ group) ≡ grown p + length group = length-append (groups_of p.mine) group in
       let c : length (j.seen ++ group) ≡ length (history_after j) =
       ap length (prefix_drop j.seen (history_after j) (after-begins j)) in
@@ -118,7 +119,8 @@ rises-turn : (lost : Bool) (f g n : ℕ) → CountsLoss lost f g → cond lost 1
 rises-turn true f g n c e = absurd (omega (arith, e))
 rises-turn false f g n c e = (omega (arith, c), omega (arith, e))
 
-rises-snoc : (ts : List (Turn Stamped)) (t : Turn Stamped) → rises (ts ++ t ∷ []) ≡ rises ts + t.rise
+pub rises-snoc : {T : Type 0} (ts : List (Turn T Stamped)) (t : Turn T Stamped)
+    → rises (ts ++ t ∷ []) ≡ rises ts + t.rise
 rises-snoc [] t = omega arith
 rises-snoc (u ∷ us) t = let i = rises-snoc us t in omega (arith, i)
 
@@ -131,7 +133,8 @@ module _ {K : Type 0} (tries : Tries K) where
       let one = rises-turn j.lost t.faults t.faults' (lost_count js) t.counted none in
       let here : rises r.0.mine ≡ rises p.mine + (t.faults' - t.faults) =
       ap (λ (x : KnownPass K). rises x.mine) t.turn
-      ∙ rises-snoc p.mine (turn_at (length j.seen) (drop (length j.seen) (history_after j)) t.faults t.faults') in
+      ∙ rises-snoc p.mine
+      (turn_at (length j.seen) (drop (length j.seen) (history_after j)) t.faults t.faults' t.found t.leaves) in
       let rest = none-rises js r.0 q r.2 one.1 in
       let zero_rise = one.0 in
       omega (arith, here, rest, zero_rise)
@@ -245,8 +248,8 @@ module _ {K : Type 0} (tries : Tries K) where
     mark = (let e = ap (λ (x : KnownPass K). marks x.mine) v.turn ∙ marks-snoc q.mine turn in omega (arith, e));
   }
     where
-      turn : Turn Stamped
-      turn = turn_at (length v.seen) (drop (length v.seen) v.seen) v.faults v.faults
+      turn : BookTurn K
+      turn = turn_at (length v.seen) (drop (length v.seen) v.seen) v.faults v.faults v.found v.leaves
 
 -- the one pass of a lock that is closed, which had no turn at first, and whose turns for wishes led to q
 module _ {K Root : Type 0} (tries : Tries K) (list : SeenBook K → List Stamped) (faults : SeenBook K → ℕ)
@@ -275,7 +278,7 @@ module _ {K Root : Type 0} (tries : Tries K) (list : SeenBook K → List Stamped
       let w : length p.seen ≡ length (list first) + grown p =
       ap length (sym closes.stands ∙ closes.whole) ∙ length-append (list first) (groups_of p.mine) in
       let o = ap length opens in
-      let n = ap (λ (ts : List (Turn Stamped)). length (groups_of ts)) bare in
+      let n = ap (λ (ts : List (BookTurn K)). length (groups_of ts)) bare in
       omega (arith, w, o, n)
 
   pub seen-closed : q.seen ≡ list x

@@ -8,6 +8,7 @@ pub mod Alone
 pub mod Endings
 pub mod StopLaws
 pub mod Stops
+pub mod Losses
 pub mod TryLaws
 pub mod TurnLaws
 pub mod Accepting

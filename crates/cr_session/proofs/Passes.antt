@@ -59,7 +59,7 @@ module _ {K : Type 0} where
 -- ---- marks
 
 -- the count rose or stands at its last value, so the turn is marked
-loses-marked : (f g : ℕ) → CountsLoss true f g → has_risen f g ≡ true
+pub loses-marked : (f g : ℕ) → CountsLoss true f g → has_risen f g ≡ true
 loses-marked f g c = by (nat_lt f g) (nat_le last_count g) refl refl
   where
     by : (a b : Bool) → nat_lt f g ≡ a → nat_le last_count g ≡ b → nat_lt f g || nat_le last_count g ≡ true
@@ -71,7 +71,8 @@ marks-one : (lost : Bool) (f g : ℕ) → CountsLoss lost f g → cond lost 1 0 
 marks-one true f g c = rw (loses-marked f g c) (omega arith)
 marks-one false f g c = omega arith
 
-pub marks-snoc : (ts : List (Turn Stamped)) (t : Turn Stamped) → marks (ts ++ t ∷ []) ≡ marks ts + cond t.marked 1 0
+pub marks-snoc : {T : Type 0} (ts : List (Turn T Stamped)) (t : Turn T Stamped)
+    → marks (ts ++ t ∷ []) ≡ marks ts + cond t.marked 1 0
 marks-snoc [] t = omega arith
 marks-snoc (u ∷ us) t = let i = marks-snoc us t in omega (arith, i)
 
@@ -80,7 +81,7 @@ module _ {K : Type 0} (tries : Tries K) where
       → marks p.mine + cond j.lost 1 0 ≤ marks q.mine
   marks-turn j p q t =
       let n = ap (λ (x : KnownPass K). marks x.mine) t.turn ∙ marks-snoc p.mine
-      (turn_at (length j.seen) (drop (length j.seen) (history_after j)) t.faults t.faults') in
+      (turn_at (length j.seen) (drop (length j.seen) (history_after j)) t.faults t.faults' t.found t.leaves) in
       let m = marks-one j.lost t.faults t.faults' t.counted in
       omega (arith, n, m)
 

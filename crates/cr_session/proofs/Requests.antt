@@ -41,16 +41,16 @@ history_after-lost w old = refl
 
 -- One turn of the pass on a ledger, which it left so, over a book that it found and left so.
 module _ {K : Type 0} (tries : Tries K) (w : Wish) (b b' : Ledger) (found leaves : SeenBook K) (p p' : KnownPass K)
-    (saw : IsPrefix p.seen b.history)
-    (as_left : IsAsLeft p found) (is : p' ≡ after_turn p leaves b.history b'.history b.faults b'.faults) where
+    (saw : IsPrefix p.seen b.history) (finds : found.log ≡ b.history) (leads : leaves.log ≡ b'.history)
+    (as_left : IsAsLeft p found) (is : p' ≡ after_turn p found leaves b.history b'.history b.faults b'.faults) where
   -- it came to this, and the request was judged with that answer
   record WasJudged (turn : TurnResult) (n : ℕ) : Type 0 where
     judges : JudgesInTurn tries w p p'
     text : turn_text turn (sending_of w (closes n w)) ≡ answer_to n judges.judged
 
   -- the turn's history, however it is told
-  turned : (H : History) → b'.history ≡ H → p' ≡ after_turn p leaves b.history H b.faults b'.faults
-  turned H e = is ∙ ap (λ (h : History). after_turn p leaves b.history h b.faults b'.faults) e
+  turned : (H : History) → b'.history ≡ H → p' ≡ after_turn p found leaves b.history H b.faults b'.faults
+  turned H e = is ∙ ap (λ (h : History). after_turn p found leaves b.history h b.faults b'.faults) e
 
   -- the wish as it was judged, and whether what it added was lost
   abbrev judged_so : Bool → JudgedWish
@@ -71,6 +71,8 @@ module _ {K : Type 0} (tries : Tries K) (w : Wish) (b b' : Ledger) (found leaves
       counted = t.counted;
       found = found;
       leaves = leaves;
+      finds = finds;
+      leads = leads ∙ t.history;
       as_left = as_left;
       tried = did;
       turn = turned (history_after (judged_so lost)) t.history;
@@ -143,9 +145,11 @@ module _ {K : Type 0} (tries : Tries K) (w : Wish) (b b' : Ledger) (found leaves
     faults = b.faults;
     found = found;
     leaves = leaves;
+    finds = finds;
+    stays = leads ∙ ap (λ (x : Ledger). x.history) same;
     as_left = as_left;
     tried = did;
-    turn = is ∙ ap (λ (x : Ledger). after_turn p leaves b.history x.history b.faults x.faults) same;
+    turn = is ∙ ap (λ (x : Ledger). after_turn p found leaves b.history x.history b.faults x.faults) same;
   }
 
   pub turned_in_vain : (turn : TurnResult) → turn ≡ turns.OutOfMemory → Turns turn w b b' → Did turn

@@ -16,7 +16,7 @@ use Rattle.cr_session.specs.Stopping.{IsLostGroup, KeepsWishesTold, OpensBehind,
 
 -- ---- the history after a turn
 
-after-lost : (j : JudgedWish) → j.lost ≡ true → history_after j ≡ j.seen
+pub after-lost : (j : JudgedWish) → j.lost ≡ true → history_after j ≡ j.seen
 unfolding history_after
 after-lost j is = ap (λ b. cond b j.seen (and_drawn j.seen (drawn j.seen j.wish))) is
 
@@ -27,7 +27,8 @@ after-kept j d is drew =
     ap (λ b. cond b j.seen (and_drawn j.seen (drawn j.seen j.wish))) is ∙ ap (and_drawn j.seen) drew
 
 -- where nothing is drawn, it stays
-after-nothing : (j : JudgedWish) (lost : Bool) → j.lost ≡ lost → drawn j.seen j.wish ≡ None → history_after j ≡ j.seen
+pub after-nothing : (j : JudgedWish) (lost : Bool) → j.lost ≡ lost
+    → drawn j.seen j.wish ≡ None → history_after j ≡ j.seen
 after-nothing j true is none = after-lost j is
 after-nothing j false is none = after-kept j None is none
 
@@ -37,7 +38,7 @@ behind-last H (i ∷ is) j = behind-last (history_after i) is j
 
 -- ---- more wishes
 
-among-more : {T : Type 0} (xs ys : List T) (x : T) → IsAmong xs x → IsAmong (xs ++ ys) x
+pub among-more : {T : Type 0} (xs ys : List T) (x : T) → IsAmong xs x → IsAmong (xs ++ ys) x
 among-more [] ys x among = absurd among
 among-more (y ∷ xs) ys x (inl is) = inl is
 among-more (y ∷ xs) ys x (inr among) = inr (among-more xs ys x among)

@@ -185,9 +185,11 @@ pub record TurnsInVain {K : Type 0} (tries : Tries K) (w : Wish) (p p' : KnownPa
   -- the book as the turn found it, and as it left it
   pub found : SeenBook K
   pub leaves : SeenBook K
+  pub finds : found.log ≡ seen
+  pub stays : leaves.log ≡ seen
   pub as_left : IsAsLeft p found
   pub tried : tries seen Nothing found.keeper leaves.keeper
-  pub turn : p' ≡ after_turn p leaves seen seen faults faults
+  pub turn : p' ≡ after_turn p found leaves seen seen faults faults
 
 -- what one request did, as number n: it was judged once and answered once, or its answer's write failed, or memory was
 -- wanting where it may be, and then nothing was added, begun or written

@@ -58,7 +58,7 @@ pub(crate) fn in_turn<R: Wait, K: Keeper>(
         × IsAsLeft pass.old b
         × Turns result wish (ledger_of K.faults b) (ledger_of K.faults b')
         × TurnTries tries result b.log (drawn b.log wish) b.keeper b'.keeper
-        × (pass.new ≡ after_turn pass.old b' b.log b'.log (K.faults b.keeper) (K.faults b'.keeper)) }
+        × (pass.new ≡ after_turn pass.old b b' b.log b'.log (K.faults b.keeper) (K.faults b'.keeper)) }
 {
     let lock = &server.lock;
     lock.turn(server.rt, pass, |book: &mut Book<K>| take_turn(book, wish))

@@ -7,6 +7,7 @@ use Rattle.cr_base.specs.declared.row.Row.{Row}
 use Rattle.cr_base.specs.History.{History}
 use Rattle.cr_base.specs.Rows.{rows_of}
 use Rattle.cr_lock.specs.Counts.{Every, total}
+use Rattle.cr_lock.specs.Turns.{Reached}
 use Rattle.cr_ports.specs.Count.{Gains, Rises}
 use Rattle.cr_ports.specs.Doors.{DoorLog, shares}
 use Rattle.cr_ports.specs.Opening.{AsksAtMost}
@@ -15,8 +16,9 @@ use Rattle.cr_ports.specs.Writing.{Outlet}
 use Rattle.cr_ports.proofs.Sharing.{length-shares_below, shares_add_up}
 use Rattle.cr_policy.specs.Legal.{Legal}
 use Rattle.cr_book.specs.Seen.{SeenBook}
-use Rattle.cr_session.specs.Replay.{Ledger, ledger_of}
-use Rattle.cr_workers.specs.Connections.{Streams}
+use Rattle.cr_session.specs.Passing.{IsTurnOf}
+use Rattle.cr_session.specs.Replay.{JudgedWish, Ledger, ledger_of}
+use Rattle.cr_workers.specs.Connections.{IsTakenIn, Streams}
 use Rattle.cr_workers.specs.Doors.{SeenDoor, DoorWork, IsWorkedOn, HasFailedDoor, connections_of, door_of}
 use Rattle.cr_workers.specs.OneHistory.{ServesHistory}
 use Rattle.cr_workers.specs.declared.worked.Worked.{Worked}
@@ -25,11 +27,12 @@ use Rattle.cr_top.specs.declared.exit.Exit.{Exit}
 use Rattle.cr_top.specs.declared.exit.Exit.TheVariants as exits
 use Rattle.cr_top.specs.Exits.{exit_of_workers}
 use Rattle.cr_top.specs.Serves.{GatesState, IsNew, AreDoorsTold, OpensAt, TellsEntries, ServesMany, ServesGates}
-use Rattle.cr_top.specs.Serves.{StaysClosed, IsWhyClosed}
+use Rattle.cr_top.specs.Serves.{StaysClosed, IsWhyClosed, judged_in}
 use Rattle.cr_top.specs.Stores.{IsWhyShut, Keeping, KeepsOthers, LeavesExactly, OpensStore, ShelfState}
 use Rattle.cr_top.proofs.Doors.{all-of, are-told, back-works, counts-all, every-seen, failed-counts, map-seen, none-all}
 use Rattle.cr_top.proofs.Doors.{total-seen, total-sum}
 use Rattle.cr_top.proofs.Lost.{lost-count}
+use Rattle.cr_top.proofs.Judged.{taken-judged}
 use Rattle.cr_top.proofs.Stored.{count-now, opens-or-memory, risen, same-rows}
 use Rattle.cr_top.proofs.Unmarked.{none-rises}
 
@@ -102,14 +105,17 @@ pub serves-many : {K I O C : Type 0} (tells : Bool) (rows : K → Option (List R
     → Gains m.faults (faults keeper') s'.faults
     → (faults keeper' ≡ 0 → LeavesExactly path book'.log s s')
     → map (λ (d : SeenDoor I O C). d.left) doors ≡ shares workers connections → Every IsNew doors
-    → ServesHistory streams ended doors doors' (ledger_of faults book) (ledger_of faults book')
+    → ((x : ServesHistory streams ended doors doors' (ledger_of faults book) (ledger_of faults book'))
+    × Reached (IsTakenIn (connections_of x.works)) book book')
+    → ((judged : List JudgedWish) → Reached (IsTurnOf streams.tries judged) book book'
+    → keeps.behind book'.log judged s s')
     → TellsEntries written (length book'.log) o o'
     → IfSome g'.logs (λ logs. map (λ (d : SeenDoor I O C). d.log) doors' ≡ map Some logs)
     → Gains h.faults (total (λ (d : SeenDoor I O C). d.faults) doors') g'.faults → g'.asked ≡ h.asked
     → ServesMany keeps path streams listen workers connections exit o o' s s' g g'
 serves-many {K} {I} {O} {C} tells rows tried keeps faults path streams listen workers connections ended written exit is
     book book' keeper' doors doors' o o' s m s' g h g' at opens
-    same legal so stands others gains exact shared new serves line told counted asked = record {
+    same legal so stands others gains exact shared new serves behind line told counted asked = record {
       opening = book.log;
       opens = opens.legal;
       found = opens.found;
@@ -129,6 +135,8 @@ serves-many {K} {I} {O} {C} tells rows tried keeps faults path streams listen wo
       line = line;
       exit_is = is;
       leaves = so;
+      behind = behind (judged_in streams book.log book'.log (connections_of from.works) from.served)
+          (taken-judged streams book.log book'.log (connections_of from.works) from.served book book' both.1);
       counted = gained;
       lost = lost-count streams book.log book'.log (connections_of from.works) from.served (faults keeper') s.faults
           s'.faults from.marked gained;
@@ -140,14 +148,20 @@ serves-many {K} {I} {O} {C} tells rows tried keeps faults path streams listen wo
       gates = subst (λ (n : ℕ). Gains n (total (λ (d : SeenDoor I O C). d.faults) doors') g'.faults) at.faults counted;
     }
   where
+    -- the history, with the turns that led to the last book, by the two counts
+    Served : ℕ → ℕ → Type 0
+    Served n n' =
+        (x : ServesHistory streams ended doors doors' (record { history = book.log; faults = n })
+        (record { history = book'.log; faults = n' }))
+        × Reached (IsTakenIn (connections_of x.works)) book book'
+
+    both : Served 0 (faults keeper')
+    both = subst (λ (n : ℕ). Served 0 n) (ap faults (sym same))
+        (subst (λ (n : ℕ). Served n (faults book'.keeper)) opens.fresh serves)
+
     from : ServesHistory streams ended doors doors' (record { history = book.log; faults = 0 })
         (record { history = book'.log; faults = faults keeper' })
-    from =
-        subst (λ (n : ℕ). ServesHistory streams ended doors doors' (record { history = book.log; faults = 0 })
-        (record { history = book'.log; faults = n }))
-        (ap faults (sym same))
-        (subst (λ (n : ℕ). ServesHistory streams ended doors doors' (record { history = book.log; faults = n })
-        (record { history = book'.log; faults = faults book'.keeper })) opens.fresh serves)
+    from = both.0
 
     gained : Gains s.faults (faults keeper') s'.faults
     gained = count-now tells rows tried faults path book keeper' s m s' opens stands others gains

@@ -3,6 +3,7 @@ mod Answering
 mod Stored
 mod Entries
 mod Doors
+mod Judged
 mod Lost
 mod Unmarked
 mod Gated

@@ -31,9 +31,14 @@ use Rattle.cr_book.specs.Opening.{IsCounted, Opens}
 use Rattle.cr_book.specs.Seen.{SeenBook}
 use Rattle.cr_book.specs.Sound.{IsKept}
 use Rattle.cr_beginnings.proofs.GroupRows.{legal-bounded}
+use Rattle.cr_lock.specs.Turns.{Reached}
+use Rattle.cr_lock.proofs.Reaching.{reached_has}
 use Rattle.cr_session.specs.declared.serve.Ending.{Ending}
+use Rattle.cr_session.specs.Passing.{IsTurnOf}
 use Rattle.cr_session.specs.Replay.{JudgedWish}
+use Rattle.cr_session.specs.Tries.{tries_of}
 use Rattle.cr_session.proofs.Endings.{replayed}
+use Rattle.cr_session.proofs.Losses.{OwesLosses, owes-turn}
 use Rattle.cr_session.proofs.Turns as turns
 use Rattle.cr_session.specs.Serving.{ConnectionBytes, WholeBytes}
 use Rattle.cr_session.specs.Stopping.{IsLostGroup, KeepsWishes, KeepsWishesTold}
@@ -45,7 +50,8 @@ use Rattle.cr_book.specs.Stopping.{CountsTried, Keepers, KeepsGroups, KeepsTold,
 use Rattle.cr_top.specs.Stores.{AnswersView, BeginsAt, CrashKeepsGroups, IsBadStore, IsGroupInVain, Keeping}
 use Rattle.cr_top.specs.Stores.{KeepsOthers, KeepsRows, KeepsStore, KeepsWishesThere, LeavesExactly, OpensStore}
 use Rattle.cr_top.specs.Stores.{RowsByPath}
-use Rattle.cr_top.specs.Stores.{ServesStore, ShelfState, StandOrOneMore, StaysShut, TellsView, ViewsStore}
+use Rattle.cr_top.specs.Stores.{ServesStore, ShelfState, StandOrOneLost, StandOrOneMore, StaysShut, TellsView}
+use Rattle.cr_top.specs.Stores.{ViewsStore}
 
 -- ---- what stands at the paths
 
@@ -529,6 +535,32 @@ module _ {K : Type 0} (tells : Bool) (keepers : Keepers K) (left : List ℕ → 
       kept-so says =
           let b = begins says in
           kept (ap keepers.tells_stops b.still ∙ so ∙ says) (ap keepers.tried b.still ∙ b.none) b.between
+
+  -- and by those of many, whose turns led from the book that was opened to the last
+  pub losses-kept : (judged : List JudgedWish) (book' : SeenBook K) → keeper' ≡ book'.keeper → book'.log ≡ history
+      → Reached (IsTurnOf (tries_of keepers) judged) book book' → StandOrOneLost tells path history judged s s'
+  losses-kept judged book' same last reached =
+      stand tells keepers.rows keepers.tried keepers.faults path book keeper' s m s' opened there-now others gains
+      history is alike (IsLostGroup judged history) lost
+    where
+      first : IsTrue tells → OwesLosses keepers judged book
+      first says =
+          let b = begins says in record {
+            told = ap keepers.tells_stops b.still ∙ so ∙ says;
+            lost = λ added among. absurd
+                (subst (λ (l : List (List Row)). IsAmong l added) (ap keepers.tried b.still ∙ b.none) among);
+          }
+
+      owed : IsTrue tells → OwesLosses keepers judged book'
+      owed says =
+          reached_has (IsTurnOf (tries_of keepers) judged) (OwesLosses keepers judged) book book' (first says)
+          (owes-turn keepers judged) reached
+
+      lost : IsTrue tells → (added : List Row) → IsAmong (keepers.tried keeper') added
+          → (group : History) × IsLostGroup judged history group × (added ≡ rows_of group)
+      lost says added among =
+          let o = (owed says).lost added (subst (λ (k : K). IsAmong (keepers.tried k) added) same among) in
+          (o.0, subst (λ (H : History). IsLostGroup judged H o.0) last o.1, o.2)
 
 -- what stands where a keeper was shut, by whether it tells what a stop leaves
 pub stands-by : (one other : Bool) → one ≡ other → (told : Option (List Row)) (tried : List (List Row))

@@ -1,27 +1,23 @@
 -- Where no wish was lost, the keeper's count of faults stands.
 use Rattle.std.proofs.Common.{◌≡◌, ◌∙◌, ⊎_elim, ℕ, ◌+◌, ◌-◌, List, [], ◌∷◌, ◌++◌, length, drop, Bool, true, false}
 use Rattle.std.proofs.Common.{cond, refl, ap, arith}
-use Rattle.cr_base.specs.declared.entry.Stamped.{Stamped}
 use Rattle.cr_base.specs.History.{History}
 use Rattle.cr_base.specs.Lists.{listed}
-use Rattle.cr_lock.specs.declared.pass_state.Turn.{Turn}
 use Rattle.cr_lock.specs.Counts.{Every, total}
 use Rattle.cr_lock.specs.Turns.{rises, turn_at}
 use Rattle.cr_lock.proofs.Sums.{total_append}
-use Rattle.cr_session.specs.Passing.{KnownPass, TakesTurn, TakesTurns}
+use Rattle.cr_session.specs.Passing.{BookTurn, KnownPass, TakesTurn, TakesTurns}
 use Rattle.cr_session.specs.Replay.{CountsLoss, JudgedWish, history_after, lost_count}
 use Rattle.cr_session.specs.Tries.{Tries}
 use Rattle.cr_session.specs.Turning.{TurnsInVain}
+use Rattle.cr_session.proofs.Alone.{rises-snoc}
 use Rattle.cr_session.proofs.Endings.{behind_judged}
 use Rattle.cr_wire.specs.declared.what.Wish.{Wish}
 use Rattle.cr_workers.specs.Connections.{IsServed, IsServedWithin, ServedConnection, Streams}
-use Rattle.cr_top.specs.Serves.{lost_in}
+use Rattle.cr_top.specs.Serves.{judged_in}
+use Rattle.cr_top.proofs.Judged.{lost-append}
 
 -- ---- the turns of a pass
-
-rises-snoc : (ts : List (Turn Stamped)) (t : Turn Stamped) → rises (ts ++ t ∷ []) ≡ rises ts + t.rise
-rises-snoc [] t = omega arith
-rises-snoc (u ∷ us) t = let i = rises-snoc us t in omega (arith, i)
 
 rise-one : (lost : Bool) (f g : ℕ) → CountsLoss lost f g → ◌≡◌ {A = ℕ} (cond lost 1 0) 0 → g - f ≡ 0
 rise-one true f g c none = absurd (omega (arith, none))
@@ -33,7 +29,8 @@ module _ {K : Type 0} (tries : Tries K) where
   rises-turn j p q t none =
       let e : rises q.mine ≡ rises p.mine + (t.faults' - t.faults) =
       ap (λ (x : KnownPass K). rises x.mine) t.turn
-      ∙ rises-snoc p.mine (turn_at (length j.seen) (drop (length j.seen) (history_after j)) t.faults t.faults') in
+      ∙ rises-snoc p.mine
+      (turn_at (length j.seen) (drop (length j.seen) (history_after j)) t.faults t.faults' t.found t.leaves) in
       let one = rise-one j.lost t.faults t.faults' t.counted none in
       omega (arith, e, one)
 
@@ -47,7 +44,8 @@ module _ {K : Type 0} (tries : Tries K) where
   rises-vain w p q vain =
       let e : rises q.mine ≡ rises p.mine + (vain.faults - vain.faults) =
       ap (λ (x : KnownPass K). rises x.mine) vain.turn
-      ∙ rises-snoc p.mine (turn_at (length vain.seen) (drop (length vain.seen) vain.seen) vain.faults vain.faults) in
+      ∙ rises-snoc p.mine
+      (turn_at (length vain.seen) (drop (length vain.seen) vain.seen) vain.faults vain.faults vain.found vain.leaves) in
       omega (arith, e)
 
 -- ---- connections
@@ -65,14 +63,16 @@ module _ {K I O C : Type 0} (streams : Streams K I O C) where
       (behind_judged (TurnsInVain streams.tries) c.ending 0 k.got k.got k.answered k.failed k.judged c.after _ _
       k.settled k.ends) in
       let sum : rises c.after.mine ≡ rises c.before.mine + rises c.turns =
-      ap rises x.mine ∙ total_append (λ (t : Turn Stamped). t.rise) c.before.mine c.turns in
+      ap rises x.mine ∙ total_append (λ (t : BookTurn K). t.rise) c.before.mine c.turns in
       omega (arith, first, last, sum)
 
   pub none-rises : (first last : History) (cs : List (ServedConnection K I O C))
-      (each : Every (IsServedWithin streams first last) cs) → lost_in streams first last cs each ≡ 0
+      (each : Every (IsServedWithin streams first last) cs) → lost_count (judged_in streams first last cs each) ≡ 0
       → total (λ (c : ServedConnection K I O C). rises c.turns) cs ≡ 0
   none-rises first last [] each none = refl
   none-rises first last (c ∷ cs) each none =
-      let one = none-one c each.0.served (omega (arith, none)) in
-      let more = none-rises first last cs each.1 (omega (arith, none)) in
+      let x = each.0.served.connection in
+      let sum = lost-append (x.answered ++ listed x.failed) (judged_in streams first last cs each.1) in
+      let one = none-one c each.0.served (omega (arith, none, sum)) in
+      let more = none-rises first last cs each.1 (omega (arith, none, sum)) in
       omega (arith, one, more)

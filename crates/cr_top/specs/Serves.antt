@@ -12,7 +12,7 @@ use Rattle.cr_ports.specs.Opening.{AsksAtMost, and_asked}
 use Rattle.cr_ports.specs.Writing.{Outlet, Writes, BreaksOff}
 use Rattle.cr_ports.specs.declared.door.DoorAnswer.TheVariants as answers
 use Rattle.cr_policy.specs.Legal.{Legal}
-use Rattle.cr_session.specs.Replay.{lost_count}
+use Rattle.cr_session.specs.Replay.{JudgedWish, lost_count}
 use Rattle.cr_workers.specs.Connections.{Streams, ServedConnection, IsServedWithin}
 use Rattle.cr_workers.specs.Doors.{SeenDoor, DoorWork, NoneLacked, connections_of, ends_of}
 use Rattle.cr_workers.specs.OneHistory.{ServesHistory}
@@ -73,17 +73,16 @@ pub record AreDoorsTold {K I O C : Type 0} (ended : Worked) (works : List (DoorW
       ≡ map (λ (w : DoorWork K I O C). ends_of w.connections) works
   pub last : Every (DoorEndsBy ended) logs
 
--- ---- answers that a command wasn't kept
+-- ---- the wishes of all connections
 
--- how many wishes of these connections were lost to the keeper: each has such an answer, or a
--- part of it where its write failed
-abbrev pub lost_in : {K I O C : Type 0}
+-- the wishes of these connections that were judged: those answered whole, and those whose answer's write failed
+abbrev pub judged_in : {K I O C : Type 0}
     → (streams : Streams K I O C) (first last : History) (connections : List (ServedConnection K I O C))
-    → Every (IsServedWithin streams first last) connections → ℕ
-lost_in streams first last [] served = 0
-lost_in streams first last (c ∷ cs) served =
-    lost_count (served.0.served.connection.answered ++ listed served.0.served.connection.failed)
-    + lost_in streams first last cs served.1
+    → Every (IsServedWithin streams first last) connections → List JudgedWish
+judged_in streams first last [] served = []
+judged_in streams first last (c ∷ cs) served =
+    (served.0.served.connection.answered ++ listed served.0.served.connection.failed)
+    ++ judged_in streams first last cs served.1
 
 -- ---- connections were served
 
@@ -119,12 +118,16 @@ pub record ServesMany {K I O C : Type 0} (keeps : Keeping) (path : List ℕ) (st
   pub written : Bool
   pub line : TellsEntries written (length history) o o'
   pub exit_is : exit ≡ exit_of_workers ended written
-  -- The store: its count rose by as many at least as wishes were lost, its last value aside.
+  -- The store: behind the rows of the last history stands nothing, or the group of one wish that was lost on it. The
+  -- shelf's count rose by as many at least as wishes were lost, its last value aside.
   pub leaves : keeps.store opening history s s'
+  pub behind : keeps.behind history
+      (judged_in streams opening history (connections_of serves.works) serves.served) s s'
   pub counted : Gains s.faults faults s'.faults
-  pub lost : Gains s.faults (lost_in streams opening history (connections_of serves.works) serves.served) s'.faults
+  pub lost : Gains s.faults (lost_count (judged_in streams opening history (connections_of serves.works) serves.served))
+      s'.faults
   -- Where none was, the rows are those of the last history and no more.
-  pub exact : lost_in streams opening history (connections_of serves.works) serves.served ≡ 0
+  pub exact : lost_count (judged_in streams opening history (connections_of serves.works) serves.served) ≡ 0
       → LeavesExactly path history s s'
   pub asked : g'.asked ≡ and_asked g.asked listen
   -- the gates tell what each door did, and count its faults

@@ -112,6 +112,11 @@ pub record IsGroupInVain (history : History) (s s' : ShelfState) (group : Histor
   pub adds : AddsOne history group
   pub counted : Rises s.faults s'.faults
 
+-- The same with the group of one of these wishes which was answered, on that history, that it wasn't kept.
+abbrev pub StandOrOneLost : Bool → List ℕ → History → List JudgedWish → ShelfState → ShelfState → Type 0
+StandOrOneLost tells_stops path history judged s s' =
+    StandOrOneMore tells_stops path history (IsLostGroup judged history) s s'
+
 -- So where the shelf's count doesn't rise, the rows at the path are those of the history. At each other path stands
 -- what stood there.
 pub record LeavesRows (tells_stops : Bool) (path : List ℕ) (history : History) (s s' : ShelfState) : Type 0 where
@@ -144,20 +149,22 @@ pub record KeepsStore (tells_stops : Bool) (opens : List ℕ → List Row → Ty
 -- the last history, that it wasn't kept.
 pub record KeepsWishesThere (tells_stops : Bool) (opens : List ℕ → List Row → Type 0) (left : List ℕ → List ℕ → Type 0)
     (path : List ℕ) (opening history : History) (judged : List JudgedWish) (s s' : ShelfState) : Type 0 where
-  pub there : StandOrOneMore tells_stops path history (IsLostGroup judged history) s s'
+  pub there : StandOrOneLost tells_stops path history judged s s'
   pub stops : CrashKeepsWishes tells_stops opens (left path) opening judged
 
--- what a run keeps from an opening history to its last, between two states of a shelf; and that by the wishes of one
--- connection
+-- what a run keeps from an opening history to its last, between two states of a shelf; that by the wishes of one
+-- connection; and what stands behind the last history, by the wishes of many
 pub record Keeping : Type 1 where
   pub store : History → History → ShelfState → ShelfState → Type 0
   pub wishes : History → History → List JudgedWish → ShelfState → ShelfState → Type 0
+  pub behind : History → List JudgedWish → ShelfState → ShelfState → Type 0
 
 -- at each path, by whether its keepers tell what a stop may leave
 abbrev pub keeping_of : (List ℕ → Bool) → (List ℕ → List Row → Type 0) → (List ℕ → List ℕ → Type 0) → List ℕ → Keeping
 keeping_of tells_stops opens left path = record {
   store = KeepsStore (tells_stops path) opens left path;
   wishes = KeepsWishesThere (tells_stops path) opens left path;
+  behind = StandOrOneLost (tells_stops path) path;
 }
 
 -- the rows of a history and no more, where they were told

@@ -32,6 +32,8 @@
 //! - Of `pipe --store` these are the groups of its first wishes, up to some. The one more is of a wish that was
 //!   answered 503; at the end, of one answered so on the last history: `ServesStore` (`wishes`), `KeepsWishesThere`,
 //!   `CrashKeepsWishes`, `OpensBehind`.
+//! - Of `serve` the one more at the end is of a wish of one of the connections. That was lost on the last history, in
+//!   a turn that is marked: `ServesMany` (`behind`), `StandOrOneLost`, `JudgesOneOf` of cr_session.
 //!
 //! Exits:
 //!
@@ -48,7 +50,8 @@
 //!
 //! # Not claimed
 //!
-//! - Of `serve`: whose the one group more is. At which moment which rows are there, except within a turn.
+//! - Of `serve`: of a stop before the end, whose the one group more is. At which moment which rows are there, except
+//!   within a turn.
 #![tactic(auto)]
 
 mod drilled;

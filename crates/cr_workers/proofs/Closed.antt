@@ -4,15 +4,16 @@ use mathlib.Core.Logic.{dite}
 use native.Mathlib.Decide.{dec_le}
 use mathlib.Core.List.{IsPrefix}
 use Rattle.cr_base.specs.History.{History}
-use Rattle.cr_lock.specs.Counts.{Every, total, within}
-use Rattle.cr_lock.specs.Turns.{groups_with, marks, rises}
+use Rattle.cr_lock.specs.Counts.{Among, Every, total, within}
+use Rattle.cr_lock.specs.Turns.{groups_with, marks, rises, Reached}
 use Rattle.cr_lock.specs.Closing.{Closes}
 use Rattle.cr_lock.proofs.Prefixes.{prefix_self}
+use Rattle.cr_lock.proofs.Reaching.{reached_on}
 use Rattle.cr_lock.proofs.Sums.{within_out}
 use Rattle.cr_book.specs.Seen.{SeenBook}
-use Rattle.cr_session.specs.Passing.{KnownPass}
+use Rattle.cr_session.specs.Passing.{BookTurn, KnownPass}
 use Rattle.cr_session.specs.Replay.{Ledger}
-use Rattle.cr_workers.specs.Connections.{Streams, ServedConnection, IsServedWithin}
+use Rattle.cr_workers.specs.Connections.{Streams, ServedConnection, IsServedWithin, IsTakenIn}
 use Rattle.cr_workers.specs.Doors.{SeenDoor, ServesDoors, connections_of}
 use Rattle.cr_workers.specs.OneHistory.{ServesHistory}
 use Rattle.cr_workers.specs.declared.worked.Worked.{Worked}
@@ -43,8 +44,19 @@ history-unasked {K} {I} {O} {C} streams doors b = record {
     none : ◌≡◌ {A = List (ServedConnection K I O C)} [] (connections_of (unasked K doors))
     none = unasked-connections K doors
 
--- the one pass of a closed lock has the turns of all connections, and the closed value stands for what it has seen
-pub history-closed : {K I O C Root : Type 0} (list : SeenBook K → History) (faults : SeenBook K → ℕ)
+-- the one pass of a closed lock has the turns of all connections, which lead from the first value to the closed one
+turns-closed : {K I O C Root : Type 0} (list : SeenBook K → History) (faults : SeenBook K → ℕ)
+    (root : SeenBook K → Root) (streams : Streams K I O C) (ended : Worked) (doors doors' : List (SeenDoor I O C))
+    (first last : SeenBook K) (p₀ p : KnownPass K) → p₀.mine ≡ []
+    → (x : ServesDoors streams ended doors doors' p₀ p) → Closes list faults root first p last
+    → Reached (IsTakenIn (connections_of x.works)) first last
+turns-closed {K} list faults root streams ended doors doors' first last p₀ p none x closes =
+    reached_on (Among p.mine) (IsTakenIn (connections_of x.works)) first last
+    (λ t mine. ⊎_elim (λ before. absurd (subst (λ (ts : List (BookTurn K)). Among ts t) none before)) (λ own. own)
+    (x.served.taken t mine)) closes.reached
+
+-- and the closed value stands for what it has seen
+history-closed : {K I O C Root : Type 0} (list : SeenBook K → History) (faults : SeenBook K → ℕ)
     (root : SeenBook K → Root) (streams : Streams K I O C) (ended : Worked) (doors doors' : List (SeenDoor I O C))
     (first last : SeenBook K) (p₀ p : KnownPass K) → p₀.seen ≡ list first → p₀.mine ≡ []
     → ServesDoors streams ended doors doors' p₀ p → Closes list faults root first p last
@@ -73,3 +85,16 @@ history-closed {K} {I} {O} {C} {Root} list faults root streams ended doors doors
           ⊎_elim (λ few. inl (let m = x.served.marked in let z = ap marks none in omega (arith, m, z, few))) inr
           closes.marks;
     }
+
+-- both, of the connections that were served
+pub book-closed : {K I O C Root : Type 0} (list : SeenBook K → History) (faults : SeenBook K → ℕ)
+    (root : SeenBook K → Root) (streams : Streams K I O C) (ended : Worked) (doors doors' : List (SeenDoor I O C))
+    (first last : SeenBook K) (p₀ p : KnownPass K) → p₀.seen ≡ list first → p₀.mine ≡ []
+    → ServesDoors streams ended doors doors' p₀ p → Closes list faults root first p last
+    → (serves : ServesHistory streams ended doors doors' (record { history = list first; faults = faults first })
+    (record { history = list last; faults = faults last })) × Reached (IsTakenIn (connections_of serves.works)) first last
+unfolding history-closed
+book-closed list faults root streams ended doors doors' first last p₀ p saw none x closes = (
+  history-closed list faults root streams ended doors doors' first last p₀ p saw none x closes,
+  turns-closed list faults root streams ended doors doors' first last p₀ p none x closes,
+)

@@ -1,17 +1,16 @@
 -- Connections that were served one after another, or side by side.
-use Rattle.std.proofs.Common.{◌≡◌, ◌∙◌, ◌<◌, ◌≤◌, ◌⊎◌, inl, inr, List, [], ◌∷◌, ◌++◌, length, Bool, true, false, nat_lt}
-use Rattle.std.proofs.Common.{if◌then◌else◌, refl, sym, ap, subst, arith}
+use Rattle.std.proofs.Common.{◌≡◌, ◌∙◌, ◌<◌, ◌≤◌, ◌⊎◌, inl, inr, ⊎_elim, List, [], ◌∷◌, ◌++◌, length, Bool, true, false}
+use Rattle.std.proofs.Common.{nat_lt, if◌then◌else◌, refl, sym, ap, subst, arith}
 use Rattle.std.proofs.lemmas.Bool.Decides.{nat_tests}
 use mathlib.Core.List.{IsPrefix}
-use Rattle.cr_base.specs.declared.entry.Stamped.{Stamped}
 use Rattle.cr_base.specs.History.{History}
-use Rattle.cr_lock.specs.declared.pass_state.Turn.{Turn}
-use Rattle.cr_lock.specs.Counts.{Every, within}
+use Rattle.cr_lock.specs.Counts.{Among, Every, within}
 use Rattle.cr_lock.specs.Turns.{groups_with, marks, rises, end_of, longer}
 use Rattle.cr_lock.specs.Passes.{larger_half, smaller_half, united, Agree}
 use Rattle.cr_lock.proofs.Prefixes.{prefix_self, prefix_trans, prefix_length, prefix_whole}
+use Rattle.cr_lock.proofs.Reaching.{any_append, any_left, any_right, any_merged}
 use Rattle.cr_lock.proofs.Sums.{total_append, total_merged}
-use Rattle.cr_session.specs.Passing.{KnownPass}
+use Rattle.cr_session.specs.Passing.{BookTurn, KnownPass}
 use Rattle.cr_workers.specs.Connections.{Streams, ServedConnection, IsServed, IsServedWithin, ServeAll}
 use Rattle.cr_workers.proofs.Grown.{every-append}
 
@@ -59,6 +58,7 @@ module _ {K I O C : Type 0} (streams : Streams K I O C) where
         groups = λ k. omega arith;
         marked = omega arith;
         rose = omega arith;
+        taken = λ t a. inl a;
       }
 
   pub serve-one : (c : ServedConnection K I O C) → IsServed streams c → ServeAll streams (c ∷ []) c.before c.after
@@ -66,15 +66,18 @@ module _ {K I O C : Type 0} (streams : Streams K I O C) where
     each = (record { served = is; begins = prefix_self c.before.seen; ends = prefix_self c.after.seen }, tt);
     seen = is.seen;
     groups =
-        λ k. (let e = ap (groups_with k) is.mine ∙ total_append (λ (t : Turn Stamped). within t.place (end_of t) k)
+        λ k. (let e = ap (groups_with k) is.mine ∙ total_append (λ (t : BookTurn K). within t.place (end_of t) k)
         c.before.mine c.turns in
         omega (arith, e));
     marked =
-        (let e = ap marks is.mine ∙ total_append (λ (t : Turn Stamped). if t.marked then 1 else 0) c.before.mine
+        (let e = ap marks is.mine ∙ total_append (λ (t : BookTurn K). if t.marked then 1 else 0) c.before.mine
         c.turns in omega (arith, e));
     rose =
-        (let e = ap rises is.mine ∙ total_append (λ (t : Turn Stamped). t.rise) c.before.mine c.turns in omega
+        (let e = ap rises is.mine ∙ total_append (λ (t : BookTurn K). t.rise) c.before.mine c.turns in omega
         (arith, e));
+    taken = λ t a. ⊎_elim (λ before. inl before) (λ own. inr (inl own))
+        (any_append (λ (u : BookTurn K). t ≡ u) c.before.mine c.turns
+        (subst (λ (ts : List (BookTurn K)). Among ts t) is.mine a));
   }
 
   pub serve-then : (cs ds : List (ServedConnection K I O C)) (p q r : KnownPass K) → ServeAll streams cs p q
@@ -95,6 +98,10 @@ module _ {K I O C : Type 0} (streams : Streams K I O C) where
     rose =
         (let x = a.rose in let y = b.rose in let z = total_append (λ (c : ServedConnection K I O C). rises c.turns) cs
         ds in omega (arith, x, y, z));
+    taken = λ t mine. ⊎_elim
+        (λ before. ⊎_elim (λ start. inl start) (λ own. inr (any_left (λ (c : ServedConnection K I O C). Among c.turns t)
+        cs ds own)) (a.taken t before))
+        (λ own. inr (any_right (λ (c : ServedConnection K I O C). Among c.turns t) cs ds own)) (b.taken t mine);
   }
 
   pub serve-both : (cs ds : List (ServedConnection K I O C)) (p q r : KnownPass K)
@@ -109,15 +116,21 @@ module _ {K I O C : Type 0} (streams : Streams K I O C) where
         seen = prefix_trans p.seen q.seen (longer q.seen r.seen) a.seen long.0;
         groups = λ k. (
             let x = a.groups k in let y = b.groups k in
-            let m = total_merged (λ (t : Turn Stamped). within t.place (end_of t) k) q.mine r.mine in
+            let m = total_merged (λ (t : BookTurn K). within t.place (end_of t) k) q.mine r.mine in
             let z = total_append (λ (c : ServedConnection K I O C). groups_with k c.turns) cs ds in omega
             (arith, x, y, z, m));
         marked = (
             let x = a.marked in let y = b.marked in
-            let m = total_merged (λ (t : Turn Stamped). if t.marked then 1 else 0) q.mine r.mine in
+            let m = total_merged (λ (t : BookTurn K). if t.marked then 1 else 0) q.mine r.mine in
             let z = total_append (λ (c : ServedConnection K I O C). marks c.turns) cs ds in omega (arith, x, y, z, m));
         rose = (
             let x = a.rose in let y = b.rose in
-            let m = total_merged (λ (t : Turn Stamped). t.rise) q.mine r.mine in
+            let m = total_merged (λ (t : BookTurn K). t.rise) q.mine r.mine in
             let z = total_append (λ (c : ServedConnection K I O C). rises c.turns) cs ds in omega (arith, x, y, z, m));
+        taken = λ t mine. ⊎_elim
+            (λ one. ⊎_elim (λ start. inl start)
+            (λ own. inr (any_left (λ (c : ServedConnection K I O C). Among c.turns t) cs ds own)) (a.taken t one))
+            (λ other. ⊎_elim (λ none. absurd none)
+            (λ own. inr (any_right (λ (c : ServedConnection K I O C). Among c.turns t) cs ds own)) (b.taken t other))
+            (any_merged (λ (u : BookTurn K). t ≡ u) q.mine r.mine mine);
       }

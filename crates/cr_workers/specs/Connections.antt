@@ -1,15 +1,15 @@
 -- Connections that were served on one history, whichever way their turns interleave.
-use Rattle.std.specs.Prelude.{◌≡◌, ℕ, ◌+◌, List, [], ◌++◌, Option, Some}
+use Rattle.std.specs.Prelude.{◌≡◌, ◌⊎◌, ℕ, ◌+◌, List, [], ◌++◌, Option, Some}
 use mathlib.Core.List.{IsPrefix}
 use Rattle.cr_base.specs.declared.entry.Stamped.{Stamped}
-use Rattle.cr_lock.specs.declared.pass_state.Turn.{Turn}
-use Rattle.cr_lock.specs.Counts.{Every, total}
+use Rattle.cr_base.specs.Lists.{listed}
+use Rattle.cr_lock.specs.Counts.{Among, Any, Every, total}
 use Rattle.cr_lock.specs.Turns.{StandsIn, groups_with, marks, rises}
 use Rattle.cr_ports.specs.Stream.{Taken}
 use Rattle.cr_ports.specs.declared.door.Served.{Served}
 use Rattle.cr_session.specs.declared.serve.Ending.{Ending}
 use Rattle.cr_session.specs.Tries.{Tries}
-use Rattle.cr_session.specs.Passing.{KnownPass}
+use Rattle.cr_session.specs.Passing.{BookTurn, IsTurnOf, KnownPass}
 use Rattle.cr_session.specs.Serving.{World, world_of, ConnectionInHistory, WholeInHistory}
 
 -- what turns do with a book's keeper; and what sources, sinks and clocks of these types tell: the bytes that are left,
@@ -43,8 +43,12 @@ pub record ServedConnection (K I O C : Type 0) : Type 0 where
   pub ending : Ending
   pub before : KnownPass K
   pub after : KnownPass K
-  pub turns : List (Turn Stamped)
+  pub turns : List (BookTurn K)
   pub ends : Served I O C
+
+-- one of these connections took the turn
+abbrev pub IsTakenIn : {K I O C : Type 0} → List (ServedConnection K I O C) → BookTurn K → Type 0
+IsTakenIn {K} {I} {O} {C} connections t = Any (λ (c : ServedConnection K I O C). Among c.turns t) connections
 
 module _ {K I O C : Type 0} (streams : Streams K I O C) where
   -- what a served connection worked on, as it was given
@@ -60,7 +64,8 @@ module _ {K I O C : Type 0} (streams : Streams K I O C) where
       c.ends.back.0 c.ends.back.1 c.ends.back.2
 
   -- A connection's bytes are the answers to its wishes, each at its turn's place of the history, which goes on from
-  -- what had been seen. Its turns are those that its pass has more, each with its group at its place.
+  -- what had been seen. Its turns are those that its pass has more, each with its group at its place, and each is of
+  -- one of its wishes, or adds nothing.
   pub record IsServed (c : ServedConnection K I O C) : Type 0 where
     pub connection : ConnectionInHistory streams.tries streams.left streams.gives c.ending 0 [] (world_before c)
         (world_after c)
@@ -69,6 +74,7 @@ module _ {K I O C : Type 0} (streams : Streams K I O C) where
     pub seen : IsPrefix c.before.seen c.after.seen
     pub mine : c.after.mine ≡ c.before.mine ++ c.turns
     pub places : Every (StandsIn c.after.seen) c.turns
+    pub judges : Every (IsTurnOf streams.tries (connection.answered ++ listed connection.failed)) c.turns
 
   -- A connection between two moments of one history: it had seen all of the first, and what
   -- it saw, the second begins with.
@@ -78,8 +84,8 @@ module _ {K I O C : Type 0} (streams : Streams K I O C) where
     pub ends : IsPrefix c.after.seen last
 
   -- What workers did together who began with one pass and ended with one: they served these connections. The pass has
-  -- their turns more: each entry is in as many groups more as they added it in, as many turns more are marked, and in
-  -- them the keeper's fault counter rose by what it rose in theirs.
+  -- their turns more, and no others: each entry is in as many groups more as they added it in, as many turns more are
+  -- marked, and in them the keeper's fault counter rose by what it rose in theirs.
   pub record ServeAll (connections : List (ServedConnection K I O C)) (p p' : KnownPass K) : Type 0 where
     pub each : Every (IsServedWithin p.seen p'.seen) connections
     pub seen : IsPrefix p.seen p'.seen
@@ -87,3 +93,4 @@ module _ {K I O C : Type 0} (streams : Streams K I O C) where
         ≡ groups_with k p.mine + total (λ (c : ServedConnection K I O C). groups_with k c.turns) connections
     pub marked : marks p'.mine ≡ marks p.mine + total (λ (c : ServedConnection K I O C). marks c.turns) connections
     pub rose : rises p'.mine ≡ rises p.mine + total (λ (c : ServedConnection K I O C). rises c.turns) connections
+    pub taken : (t : BookTurn K) → Among p'.mine t → Among p.mine t ⊎ IsTakenIn connections t

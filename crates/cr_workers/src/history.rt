@@ -1,10 +1,11 @@
 //! All workers over one book.
 ghost use Rattle.std.specs.Prelude.{◌≡◌, ◌≤◌, ◌^◌, length, map, false};
 ghost use Rattle.cr_lock.specs.Counts.{Every, total};
+ghost use Rattle.cr_lock.specs.Turns.{Reached};
 ghost use Rattle.cr_session.specs.Replay.{ledger_of};
 ghost use Rattle.cr_session.specs.Tries.{tries_of};
-ghost use Rattle.cr_workers.specs.Connections.{streams_of};
-ghost use Rattle.cr_workers.specs.Doors.{door_of, turns_for};
+ghost use Rattle.cr_workers.specs.Connections.{IsTakenIn, streams_of};
+ghost use Rattle.cr_workers.specs.Doors.{connections_of, door_of, turns_for};
 ghost use Rattle.cr_workers.specs.OneHistory.{ServesHistory};
 
 use crate::doors::serve_doors;
@@ -17,8 +18,9 @@ use std::sync::Wait;
 use std::thread::Threads;
 
 /// Serves the connections of all doors, at most 64, from the book's history on: each door by a worker of its own, in a
-/// thread of its own if one can be made. The book is handed back with the last history, and the doors in their order.
-/// A connection's fault ends only that connection.
+/// thread of its own if one can be made. The book is handed back with the last history, and the doors in their order:
+/// turns of the connections led to it, each of which found the book as another had left it. A connection's fault ends
+/// only that connection.
 ///
 /// - `Done`: each door has given its share.
 /// - `DoorFailed`: a door failed; the others were served to their ends.
@@ -36,9 +38,10 @@ pub fn serve_book<R: Threads + Wait + Sync, K: Keeper + Send, D: Door + Drop + S
     ensures opened { result.1.opened ≡ book.opened }
     ensures serves { let tries = tries_of K.Keeper in
         let seen = map (door_of D.left D.is_out D.faults D.log) in
-        ServesHistory
+        (serves : ServesHistory
         (streams_of tries D.In.left D.In.read_gives D.In.faults D.Out.taken D.Out.faults D.Clock.coming D.Clock.faults)
-        result.0 (seen doors.items) (seen result.2.items) (ledger_of K.faults book) (ledger_of K.faults result.1) }
+        result.0 (seen doors.items) (seen result.2.items) (ledger_of K.faults book) (ledger_of K.faults result.1))
+        × Reached (IsTakenIn (connections_of serves.works)) book result.1 }
 {
     let (server, pass) = match Server::new(rt, alloc, book) {
         Ok(made) => made,

@@ -8,6 +8,9 @@
 //! - Each connection was served as `serve_connection` says, on histories that begin with the first and with which the
 //!   last begins. Its turns are those that its worker's pass has more, each with its group at its place (`served`,
 //!   `IsServed`, `IsServedWithin`).
+//! - Turns of the connections lead from the first book to the last one, each from what another left: `serve_book`
+//!   (`serves`), `Reached` of cr_lock. In each a wish of its connection was judged; or memory ran out, and nothing was
+//!   added or tried: `IsServed`, `IsTurnOf` of cr_session.
 //! - The keeper's counter rose by what it rose in these turns, so by as many as are marked at least, its maximum
 //!   aside (`counted`, `marked`). The doors come back in order, each with the connections that it gave (`before`,
 //!   `after`).

@@ -18,7 +18,7 @@ returns-in-Ok-clause-serves g c =
     let same = c.sending-sending.ensures.sending in
     let block = c.block_of-block.result.now in
     serves_sent tries c.args.wish (ledger_of K.faults t.0) (ledger_of K.faults t.1) t.0 t.1 c.args.pass.now
-    c.in_turn-turn.new.pass t.2 t.3 t.6 turn c.send.result c.args.space.now.number close
+    c.in_turn-turn.new.pass t.2 refl refl t.3 t.6 turn c.send.result c.args.space.now.number close
     (c.print_turn.new.reply.items ++ block) _ _
     c.in_default.not-OutOfMemory t.4 t.5 c.closes-close.ensures
     (ap (λ f. f ++ block) (c.in-Ok.ensures.ok ∙ ap (turn_front turn) same)
@@ -33,7 +33,7 @@ returns-clause-serves g c =
     let t = c.in_turn-turn.ensures in (
       refl,
       unprinted tries c.args.wish (ledger_of K.faults t.0) (ledger_of K.faults t.1) t.0 t.1 c.args.pass.now
-          c.in_turn-turn.new.pass t.2 t.3 t.6
+          c.in_turn-turn.new.pass t.2 refl refl t.3 t.6
           c.in_turn-turn.result t.4 t.5 c.in-Err.ensures.err,
     )
 
@@ -44,6 +44,6 @@ returns-in-OutOfMemory-clause-serves g c =
     let t = c.in_turn-turn.ensures in (
       refl,
       turned_in_vain tries c.args.wish (ledger_of K.faults t.0) (ledger_of K.faults t.1) t.0 t.1 c.args.pass.now
-          c.in_turn-turn.new.pass t.2 t.3 t.6
+          c.in_turn-turn.new.pass t.2 refl refl t.3 t.6
           c.in_turn-turn.result c.in-OutOfMemory.is t.4 t.5,
     )

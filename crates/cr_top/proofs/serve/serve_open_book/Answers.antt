@@ -1,4 +1,4 @@
-use Rattle.std.proofs.Common.{◌∙◌, ℕ, List, ap, sym, subst}
+use Rattle.std.proofs.Common.{◌∙◌, ℕ, List, ap, refl, sym, subst}
 use Rattle.std.specs.Prelude.{Bool, is_ok, map}
 use Rattle.cr_ports.specs.Writing.{outlet_of}
 use Rattle.cr_workers.specs.Doors.{door_of}
@@ -6,7 +6,7 @@ use Rattle.cr_top.specs.Exits.{exit_of_workers}
 use Rattle.cr_top.specs.Serves.{TellsEntries, gates_of}
 use Rattle.cr_top.specs.Stores.{state_of}
 use Rattle.cr_book.specs.Stopping.{CountsTried, KeepsTold}
-use Rattle.cr_top.proofs.Stored.{exact-rows, keeps-store, stands-by}
+use Rattle.cr_top.proofs.Stored.{exact-rows, keeps-store, losses-kept, stands-by}
 use Rattle.cr_top.proofs.Gated.{back-seen, counted-seen, doors-back, new-back, serves-many, shared-seen, told-seen}
 use Rattle.cr_top.proofs.serve.serve_open_book.Goals as goal
 
@@ -25,7 +25,7 @@ pub shut-requires : goal.shut-requires
 shut-requires g c =
     back-seen g.G.Door.Door.left g.G.Door.Door.is_out g.G.Door.Door.faults g.G.Door.Door.log
     c.serve_book-ended.result.2.items
-    (doors-back _ _ _ _ _ _ c.serve_book-ended.ensures.serves c.requires.new)
+    (doors-back _ _ _ _ _ _ c.serve_book-ended.ensures.serves.0 c.requires.new)
 
 pub shut-requires-2 : goal.shut-requires-2
 shut-requires-2 g c =
@@ -81,6 +81,13 @@ returns g c tells so s opens before listen at workers connections shared begins 
     (λ told. subst (λ (k : g.row.S-Keeper.Denot). CountsTried K k c.close.result)
     c.serve_book-ended.ensures.opened (c.close.ensures.counted told)))
     (shared-seen left is_out faults log c.args.doors.items _ shared) c.requires.new c.serve_book-ended.ensures.serves
+    (λ judged. losses-kept (tells path) K
+    (g.S.Shelf.left c.shut-2.new.self) _ path c.args.book
+    c.close.result s (stores c.args.shelf.now) (stores c.shut-2.new.self) so so'
+    (K.rows_alike c.close.result c.args.book.opened alike) begins
+    (λ told image. (c.shut-2.ensures.stops told image).0) opens stands c.shut-2.ensures.others
+    c.shut-2.ensures.count
+    worked.1.log c.close.ensures.kept judged worked.1 c.close.ensures.same refl)
     (subst (λ (n : ℕ). TellsEntries (is_ok c.tell_entries.result) n o o') c.entries-entries.ensures.value
     c.tell_entries.ensures)
     (told-seen left is_out faults log worked.2.items _ c.shut.ensures.told)

@@ -34,6 +34,7 @@ returns-in-Conn-clause-serves g c =
         seen = grown.seen;
         mine = grown.mine;
         places = grown.places;
+        judges = grown.judges;
       },
       refl,
       refl,

@@ -105,6 +105,6 @@ returns-clause-turn g c =
         mine = (last.0 i).0.mine;
         left = (last.0 i).0.left;
       })
-          ∙ ap (λ p. after_turn p y (g.T.Stands.list x) (g.T.Stands.list y) (g.T.Stands.faults x) (g.T.Stands.faults y))
+          ∙ ap (λ p. after_turn p x y (g.T.Stands.list x) (g.T.Stands.list y) (g.T.Stands.faults x) (g.T.Stands.faults y))
           c.pass.view_is,
     )
