@@ -4,11 +4,13 @@
 
     python3 checks/extending.py [NAME..]           whether each would apply, as `git apply` says
     python3 checks/extending.py --build [NAME..]   applies each in a copy of the commit, and runs the cases that it
-                                                   touches there, by `rt try` of conformance, which proves nothing
+                                                   touches there, by `rt try` of conformance, which proves nothing;
+                                                   and the client's tests of its operations, if it touches the client
 
 NAME is a diff without its ending, such as `term`; all are taken where none is named. What an example touches may have
-moved: aim its diff anew. Git is needed; with --build the toolchain too, and some minutes for each. Ends with status 0
-where all apply, and with --build where all cases come out as due.
+moved: aim its diff anew. Git is needed; with --build the toolchain too, Debian's python3-pytest and what the client
+needs (checks/packages.sh), and some minutes for each. Ends with status 0 where all apply, and with --build where all
+cases come out as due and the tests pass.
 """
 
 import re
@@ -27,8 +29,17 @@ def applies(diff):
     return done.stderr.strip()
 
 
+def fits_client(folder):
+    """Whether the client in this copy has a method for each operation of docs/openapi.json, and no other."""
+    done = subprocess.run(["/usr/bin/python3", "-m", "pytest", "-q", "-p", "no:cacheprovider",
+                           "tests/test_operations.py"], cwd=f"{folder}/client", capture_output=True, text=True,
+                          check=False)
+    print(done.stdout[-2_000:] + done.stderr[-2_000:])
+    return done.returncode == 0
+
+
 def runs(diff):
-    """Whether the cases that the diff touches come out as due in a copy to which it was applied."""
+    """Whether the cases that the diff touches come out as due in a copy with it applied, and the client fits."""
     cases = sorted(set(re.findall(r"^\+\+\+ b/crates/conformance/data/(\S+)", diff.read_text(), re.M)))
     data = [word for case in cases for word in ("--data", f"{case}=data/{case}")]
     with tempfile.TemporaryDirectory() as folder:
@@ -36,8 +47,9 @@ def runs(diff):
         subprocess.run(["git", "apply", diff], cwd=folder, check=True)
         done = subprocess.run(["rt", "try", "--steps", "100000", "--seconds", "900", *data], check=False,
                               cwd=f"{folder}/crates/conformance", capture_output=True, text=True)
+        fits = "+++ b/client/" not in diff.read_text() or fits_client(folder)
     print(done.stdout[-2_000:] + done.stderr[-2_000:])
-    return "answers, 0 cases not as due" in done.stdout
+    return fits and "answers, 0 cases not as due" in done.stdout
 
 
 def main():
@@ -47,7 +59,7 @@ def main():
     for diff in diffs:
         why = applies(diff)
         if not why and builds and not runs(diff):
-            why = "its cases come out otherwise"
+            why = "its cases come out otherwise, or the client doesn't fit"
         if why:
             wrong += 1
             print(f"{diff.relative_to(TOP)}: {why}")
