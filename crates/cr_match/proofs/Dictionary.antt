@@ -1,14 +1,10 @@
--- From choices of slots to lists of pairs in dictionary order.
-use Rattle.cr_match.proofs.Common.{◌≡◌, ◌⊎◌, inl, inr, ℕ, zero, suc, ◌+◌, ◌*◌, ◌≤◌, Bool, true, false, List, [], ◌∷◌}
-use Rattle.cr_match.proofs.Common.{length, count_by, take, pos, ◌+ℤ◌, refl, arith, ap, sym, ◌∙◌, subst, ints}
-use Rattle.cr_match.proofs.Common.{sum_by-cons, Pair, Problem, Slot, kept, of_paper, of_member, IsPlan, total_weight}
-use Rattle.cr_match.proofs.Common.{chosen_value, slot, Alike, Filled, AreBy, IsFor, marks, IsNoLater}
-use Rattle.cr_match.proofs.Common.{NoneBefore, IsAscending, IsProblem, IsChosen}
-use Rattle.cr_match.specs.Answer.{ComesAfter, Ascends, IsBefore, IsFirst}
-use Rattle.cr_match.proofs.Alike.{bit}
-use Rattle.cr_match.proofs.Starts.{are_inside, are_worth, are_length, for_alike}
-use Rattle.cr_match.proofs.Surface.{kept_papers, kept_members, kept_weight, chosen_count, chosen_count_is}
-use Rattle.cr_match.proofs.Inside.{no_paper, marks_length}
+-- From choices of pairs to lists of pairs in dictionary order.
+use Rattle.cr_match.proofs.Common.{Bool, IsAscending, IsPlan, IsProblem, List, Pair, Problem, ap, arith, false, get_or}
+use Rattle.cr_match.proofs.Common.{inl, inr, ints, kept, length, map, refl, subst, suc, sym, total_weight, true, zero}
+use Rattle.cr_match.proofs.Common.{ℕ, ◌<◌, ◌∙◌, ◌∷◌, ◌≡◌, ◌⊎◌, ◌≤ℤ◌, []}
+use Rattle.cr_match.specs.Answer.{Ascends, ComesAfter, IsBefore, IsFirst}
+use Rattle.cr_match.specs.Settle.{NoneBefore, SameTo, nth}
+use Rattle.cr_match.proofs.Rivals.{as_many}
 
 comes_trans : (e f g : Pair) → ComesAfter e f → ComesAfter f g → ComesAfter e g
 comes_trans e f g h k = elim h [
@@ -54,137 +50,62 @@ parts_here : (e : Pair) (es xs ys : List Pair) (bs : List Bool) → Ascends e es
 parts_here e es xs [] bs h is l = absurd (omega (arith, l, some_length e xs, none_length))
 parts_here e es xs (f ∷ fs) bs h is l = inl (kept_after e es bs f fs h is)
 
--- what is no later as marks comes first, or is the same, as a list
-pub in_order : (es : List Pair) (bs cs : List Bool) → IsAscending es → IsNoLater bs cs
-    → length (kept bs es) ≡ length (kept cs es) → (kept cs es ≡ kept bs es) ⊎ IsBefore (kept bs es) (kept cs es)
-in_order [] bs cs asc h l = inl (kept_nothing cs ∙ sym (kept_nothing bs))
-in_order (e ∷ es) [] [] asc h l = inl refl
-in_order (e ∷ es) [] (c ∷ cs) asc h l = absurd h
-in_order (e ∷ es) (b ∷ bs) [] asc h l = absurd h
-in_order (e ∷ es) (true ∷ bs) (true ∷ cs) asc h l =
-    let less : length (kept bs es) ≡ length (kept cs es) =
-    omega (arith, l, some_length e (kept bs es), some_length e (kept cs es)) in
-    elim (in_order es bs cs (ascends_rest e es asc) h less) [
+-- where the marks part first, the plan has the pair
+abbrev NoLater : (Pair → Bool) → List Pair → List Bool → Type 0
+NoLater h es cs = (i : ℕ) → i < length es → SameTo h es cs i → get_or cs i false ≡ true → h (nth es i) ≡ true
+
+later_rest : (h : Pair → Bool) (e : Pair) (es : List Pair) (c : Bool) (cs : List Bool) → c ≡ h e
+    → NoLater h (e ∷ es) (c ∷ cs) → NoLater h es cs
+later_rest h e es c cs same none i lt before has = none (suc i) (omega (arith, lt, some_length e es)) sooner has
+  where
+    sooner : SameTo h (e ∷ es) (c ∷ cs) (suc i)
+    sooner zero lj = same
+    sooner (suc j) lj = before j (omega (arith, lj))
+
+-- so it comes first, or is the same, as a list of as many
+order_case : (h : Pair → Bool) (e : Pair) (es : List Pair) (b c : Bool) (cs : List Bool) → Ascends e es
+    → (c ≡ true → b ≡ true) → (c ≡ b → length (kept (map h es) es) ≡ length (kept cs es)
+    → (kept cs es ≡ kept (map h es) es) ⊎ IsBefore (kept (map h es) es) (kept cs es))
+    → length (kept (b ∷ map h es) (e ∷ es)) ≡ length (kept (c ∷ cs) (e ∷ es))
+    → (kept (c ∷ cs) (e ∷ es) ≡ kept (b ∷ map h es) (e ∷ es))
+    ⊎ IsBefore (kept (b ∷ map h es) (e ∷ es)) (kept (c ∷ cs) (e ∷ es))
+order_case h e es true true cs asc has rest l = elim (rest refl
+    (omega (arith, l, some_length e (kept (map h es) es), some_length e (kept cs es)))) [
       | inl same ↦ inl (ap (λ (x : List Pair). e ∷ x) same)
       | inr before ↦ inr (inr (refl, refl, before))
     ]
-in_order (e ∷ es) (true ∷ bs) (false ∷ cs) asc h l = inr (parts_here e es (kept bs es) (kept cs es) cs asc refl l)
-in_order (e ∷ es) (false ∷ bs) (true ∷ cs) asc h l = absurd h
-in_order (e ∷ es) (false ∷ bs) (false ∷ cs) asc h l = in_order es bs cs (ascends_rest e es asc) h l
+order_case h e es true false cs asc has rest l = inr (parts_here e es (kept (map h es) es) (kept cs es) cs asc refl l)
+order_case h e es false true cs asc has rest l = absurd (let x = has refl in cc)
+order_case h e es false false cs asc has rest l = rest refl l
 
--- any choice of pairs, as one of slots
-
-abbrev pub marked : List Bool → List Slot → List Slot
-marked bs [] = []
-marked [] (s ∷ ss) = slot s.paper s.member s.value false ∷ marked [] ss
-marked (b ∷ bs) (s ∷ ss) = slot s.paper s.member s.value b ∷ marked bs ss
-
-marked_alike : (bs : List Bool) (ss : List Slot) → Alike ss (marked bs ss)
-marked_alike bs [] = tt
-marked_alike [] (s ∷ ss) = (refl, refl, refl, marked_alike [] ss)
-marked_alike (b ∷ bs) (s ∷ ss) = (refl, refl, refl, marked_alike bs ss)
-
-marked_kept : (bs : List Bool) (es : List Pair) (ss : List Slot) → AreBy IsFor es ss
-    → kept (marks (marked bs ss)) es ≡ kept bs es
-marked_kept bs [] [] h = sym (kept_nothing bs)
-marked_kept bs [] (s ∷ ss) h = absurd h
-marked_kept bs (e ∷ es) [] h = absurd h
-marked_kept [] (e ∷ es) (s ∷ ss) h = marked_kept [] es ss h.1 ∙ nothing es
+pub in_order : (h : Pair → Bool) (es : List Pair) (cs : List Bool) → IsAscending es → NoLater h es cs
+    → length (kept (map h es) es) ≡ length (kept cs es)
+    → (kept cs es ≡ kept (map h es) es) ⊎ IsBefore (kept (map h es) es) (kept cs es)
+in_order h [] cs asc none l = inl (kept_nothing cs)
+in_order h (e ∷ es) [] asc none l = inl (sym (nothing (kept (map h (e ∷ es)) (e ∷ es)) l))
   where
-    nothing : (xs : List Pair) → kept [] xs ≡ []
-    nothing xs = refl
-marked_kept (true ∷ bs) (e ∷ es) (s ∷ ss) h = ap (λ (x : List Pair). e ∷ x) (marked_kept bs es ss h.1)
-marked_kept (false ∷ bs) (e ∷ es) (s ∷ ss) h = marked_kept bs es ss h.1
+    nothing : (xs : List Pair) → length xs ≡ length {A = Pair} [] → xs ≡ []
+    nothing [] l = refl
+    nothing (x ∷ xs) l = absurd (omega (arith, l, some_length x xs, none_length))
+in_order h (e ∷ es) (c ∷ cs) asc none l = order_case h e es (h e) c cs asc
+    (none 0 (omega (arith, some_length e es)) (λ j lj. absurd (omega (arith, lj))))
+    (λ same less. in_order h es cs (ascends_rest e es asc) (later_rest h e es c cs same none) less) l
 
-count_case : (e : Pair) (s : Slot) (c : Bool) (bs : List Bool) (es : List Pair) (n : ℕ) → length (kept bs es) ≡ n
-    → length (kept (c ∷ bs) (e ∷ es)) ≡ bit c + n
-count_case e s true bs es n h = omega (arith, h, some_length e (kept bs es))
-count_case e s false bs es n h = omega (arith, h)
-
-kept_count : (es : List Pair) (ss : List Slot) → AreBy IsFor es ss → length (kept (marks ss) es) ≡ chosen_count ss
-kept_count [] [] h = refl
-kept_count [] (s ∷ ss) h = absurd h
-kept_count (e ∷ es) [] h = absurd h
-kept_count (e ∷ es) (s ∷ ss) h =
-    omega (
-      arith,
-      count_case e s s.chosen (marks ss) es (chosen_count ss) (kept_count es ss h.1),
-      sum_by-cons (λ x. bit x.chosen) s ss,
-    )
-
-take_all : (n : ℕ) (bs : List Bool) → length bs ≤ n → take n bs ≡ bs
-take_all zero [] h = refl
-take_all zero (b ∷ bs) h = absurd (let l : length (b ∷ bs) ≡ suc (length bs) = refl in omega (arith, h, l))
-take_all (suc n) [] h = refl
-take_all (suc n) (b ∷ bs) h = ap (λ (x : List Bool). b ∷ x)
-    (take_all n bs (let l : length (b ∷ bs) ≡ suc (length bs) = refl in omega (arith, h, l)))
-
-filled_of : (problem : Problem) (plan : List Pair) (ts : List Slot) → IsProblem problem
-    → AreBy IsFor problem.pairs.items ts → IsPlan problem.papers problem.per_paper problem.load plan →
-    plan ≡ kept (marks ts) problem.pairs.items → Filled problem.per_paper problem.load problem.papers 0 ts
-filled_of problem plan ts fine are fits is =
-    let inside = are_inside problem.papers problem.members problem.pairs.items ts fine.inside are in
-    record {
-      full = λ q l. sym (kept_papers q problem.pairs.items ts are)
-          ∙ ap (λ (x : List Pair). count_by (of_paper q) x) (sym is) ∙ fits.full q l;
-      here = no_paper problem.papers problem.members problem.papers ts inside (omega arith);
-      rest = λ q l. no_paper problem.papers problem.members q ts inside (omega (arith, l));
-      light =
-          λ m. omega (
-            arith,
-            kept_members m problem.pairs.items ts are,
-            ap (λ (x : List Pair). count_by (of_member m) x) is,
-            fits.light m,
-          );
-    }
-
-pub is_first : (problem : Problem) (a b : List ℕ) (ss : List Slot) (pairs : List Pair) → IsProblem problem
-    → IsChosen problem a b ss →
-    NoneBefore problem.per_paper problem.load problem.papers (length ss) ss
-    → pairs ≡ kept (marks ss) problem.pairs.items → IsAscending problem.pairs.items → IsFirst problem pairs
-is_first problem a b ss pairs fine chosen none is asc other plan same =
-    let es = problem.pairs.items in
-    let ts = marked plan.marks ss in
-    let alike = marked_alike plan.marks ss in
-    let are = for_alike problem.pairs.items ss (marked plan.marks ss) chosen.are alike in
-    let io = plan.some ∙ sym (marked_kept plan.marks problem.pairs.items ss chosen.are) in
-    let filled = filled_of problem other (marked plan.marks ss) fine are plan.fits io in
-    let ns = chosen_count_is problem.per_paper 1073741804 1073741844 problem.papers ss
-    (are_worth problem.papers problem.members problem.pairs.items ss fine.inside chosen.are) chosen.filled.full in
-    let nt = chosen_count_is problem.per_paper 1073741804 1073741844 problem.papers (marked plan.marks ss)
-    (are_worth problem.papers problem.members problem.pairs.items (marked plan.marks ss) fine.inside are) filled.full in
-    let ws : total_weight pairs +ℤ pos (1073741824 * chosen_count ss) ≡ pos (chosen_value ss) =
-    ap (λ (x : List Pair). total_weight x +ℤ pos (1073741824 * chosen_count ss)) is
-    ∙ kept_weight problem.pairs.items ss chosen.are in
-    let wt : total_weight other +ℤ pos (1073741824 * chosen_count (marked plan.marks ss))
-    ≡ pos (chosen_value (marked plan.marks ss)) =
-    ap (λ (x : List Pair). total_weight x +ℤ pos (1073741824 * chosen_count (marked plan.marks ss))) io
-    ∙ kept_weight problem.pairs.items (marked plan.marks ss) are in
-    let most : chosen_value ss ≤ chosen_value (marked plan.marks ss) = omega (arith, ints, ns, nt, ws, wt, same) in
-    let before = none (marked plan.marks ss) alike filled most in
-    let ls : length (marks ss) ≤ length ss = omega (arith, marks_length ss) in
-    let lt : length (marks (marked plan.marks ss)) ≤ length ss =
-    omega (
-      arith,
-      marks_length (marked plan.marks ss),
-      are_length IsFor problem.pairs.items (marked plan.marks ss) are,
-      are_length IsFor problem.pairs.items ss chosen.are,
-    ) in
-    let order : IsNoLater (marks ss) (marks (marked plan.marks ss)) =
-    subst (λ (bs : List Bool). IsNoLater bs (marks (marked plan.marks ss))) (take_all (length ss) (marks ss) ls)
-    (subst (λ (cs : List Bool). IsNoLater (take (length ss) (marks ss)) cs)
-    (take_all (length ss) (marks (marked plan.marks ss)) lt) before) in
-    let long : length (kept (marks ss) problem.pairs.items)
-    ≡ length (kept (marks (marked plan.marks ss)) problem.pairs.items) =
-    omega (
-      arith,
-      kept_count problem.pairs.items ss chosen.are,
-      kept_count problem.pairs.items (marked plan.marks ss) are,
-      ns,
-      nt,
-    ) in
-    elim (in_order problem.pairs.items (marks ss) (marks (marked plan.marks ss)) asc order long) [
-      | inl e ↦ inl (io ∙ e ∙ sym is)
-      | inr b' ↦ inr (subst (λ (x : List Pair). IsBefore x other) (sym is)
-          (subst (λ (y : List Pair). IsBefore (kept (marks ss) problem.pairs.items) y) (sym io) b'))
+pub is_first : (problem : Problem) (h : Pair → Bool) → IsProblem problem
+    → IsPlan problem.papers problem.per_paper problem.load (kept (map h problem.pairs.items) problem.pairs.items)
+    → NoneBefore problem.papers problem.per_paper problem.load problem.pairs.items h (length problem.pairs.items)
+    → IsAscending problem.pairs.items → IsFirst problem (kept (map h problem.pairs.items) problem.pairs.items)
+is_first problem h fine plan none asc other rival same =
+    let fits : IsPlan problem.papers problem.per_paper problem.load (kept rival.marks problem.pairs.items) =
+    subst (IsPlan problem.papers problem.per_paper problem.load) rival.some rival.fits in
+    let le : total_weight (kept (map h problem.pairs.items) problem.pairs.items)
+    ≤ℤ total_weight (kept rival.marks problem.pairs.items) =
+    omega (arith, ints, same, ap total_weight rival.some) in
+    elim (in_order h problem.pairs.items rival.marks asc
+    (λ i li before has. none i li rival.marks fits le before has)
+    (as_many problem.papers problem.members problem.per_paper problem.load problem.pairs.items h fine.inside plan
+    rival.marks fits)) [
+      | inl e ↦ inl (rival.some ∙ e)
+      | inr before ↦ inr (subst (IsBefore (kept (map h problem.pairs.items) problem.pairs.items))
+          (sym rival.some) before)
     ]

@@ -2,7 +2,8 @@
 use Rattle.cr_match.proofs.Common.{◌≡◌, inl, inr, ℕ, ◌+◌, ◌-◌, ◌*◌, ◌/◌, ◌%◌, ◌^◌, ◌<◌, ◌≤◌, Bool, true, false, List}
 use Rattle.cr_match.proofs.Common.{get_or, min, ltb, cond, refl, arith, ap, sym, ◌∙◌, w64, nat_tests, cases_lt}
 use Rattle.cr_match.proofs.Common.{bit_at-lt, bit_at-zero, bit_and, bit_at, bit_not, Covers}
-use Rattle.std.proofs.lemmas.Nat.Bits.{bit_at_and, bit_at_not, ones_shl, bit_at_mask_inside, bit_at_mask_below, bit_at-trailing_zeros}
+use Rattle.std.proofs.lemmas.Nat.Bits.{bit_at_and, bit_at_not, ones_shl, bit_at_mask_inside, bit_at_mask_below}
+use Rattle.std.proofs.lemmas.Nat.Bits.{bit_at-trailing_zeros}
 use Rattle.std.specs.Int.{trailing_zeros}
 use Rattle.cr_match.specs.Rows.{Has, RowHas}
 
@@ -27,7 +28,8 @@ IsFresh word mask from new = (k : ℕ) → k < 64
 
 covered : (w m from k : ℕ) (c : Bool) → ltb k from ≡ c → from ≤ k → w < 2 → m < 2 → 0 ≡ min (min w (1 - m)) (cond c 0 1)
     → w ≡ 1 → m ≡ 1
-covered w m from k true e le lw lm z one = absurd (let lt : k < from = grind (arith, nat_tests) in omega (arith, lt, le))
+covered w m from k true e le lw lm z one =
+    absurd (let lt : k < from = grind (arith, nat_tests) in omega (arith, lt, le))
 covered w m from k false e le lw lm z one = omega (arith, z, one, lw, lm)
 
 not_fresh : (word mask from new k : ℕ) → IsFresh word mask from new → k < 64 → from ≤ k → bit_at new k ≡ 0
@@ -72,7 +74,8 @@ module _ (width : ℕ) (words : List ℕ) (r : ℕ) (mask : List ℕ) (from at f
       let tz = bit_at-trailing_zeros w64 new some fits in
       let lt : t < 64 = omega (arith, tz.0, is) in
       let set : bit_at new t ≡ 1 = ap (bit_at new) is ∙ tz.1 in
-      let one = one_of (bit_at (get_or words (r * width + at) 0) t) (bit_at (get_or mask at 0) t) first t (ltb t first) refl
+      let one = one_of (bit_at (get_or words (r * width + at) 0) t) (bit_at (get_or mask at 0) t) first t
+      (ltb t first) refl
       (bit_at-lt (get_or words (r * width + at) 0) t) (sym set ∙ fresh t lt) in
       let word : (at * 64 + t) / 64 ≡ at = omega arith in
       let place : (at * 64 + t) % 64 ≡ t = omega arith in (
@@ -81,7 +84,8 @@ module _ (width : ℕ) (words : List ℕ) (r : ℕ) (mask : List ℕ) (from at f
         ap (λ k. bit_at (get_or words (r * width + k) 0) ((at * 64 + t) % 64)) word
             ∙ ap (bit_at (get_or words (r * width + at) 0)) place ∙ one.1,
         λ h. absurd (let e : bit_at (get_or mask at 0) t ≡ 1 =
-            ap (bit_at (get_or mask at 0)) (sym place) ∙ ap (λ k. bit_at (get_or mask k 0) ((at * 64 + t) % 64)) (sym word)
+            ap (bit_at (get_or mask at 0)) (sym place)
+            ∙ ap (λ k. bit_at (get_or mask k 0) ((at * 64 + t) % 64)) (sym word)
             ∙ h in omega (arith, e, one.2)),
         more t (omega (arith, lt)) (λ k l. tz.2 k (omega (arith, l, is))),
       )

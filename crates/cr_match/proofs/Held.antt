@@ -1,42 +1,30 @@
--- Slots of what is held: how many a paper has, and a member, and what they suit.
-use Rattle.cr_match.proofs.Common.{◌≡◌, ◌≢◌, ◌⊎◌, inl, inr, ℕ, zero, suc, ◌+◌, ◌<◌, ◌≤◌, Bool, true, false, ◌&&◌}
-use Rattle.cr_match.proofs.Common.{◌==◌, List, [], ◌∷◌, length, count_by, get_or, ℤ, pos, negsuc, ◌+ℤ◌, ◌≤ℤ◌, refl}
-use Rattle.cr_match.proofs.Common.{arith, ap, sym, ◌∙◌, subst, cases_lt, nat_tests, ints, get_or_past, Board, Levels}
-use Rattle.cr_match.proofs.Common.{Draft, Pair, AreInside, IsApart, AreDistinct, AreBy, IsFor, Holds, cell, at}
-use Rattle.cr_match.proofs.Common.{AllInside, Alike, Filled, above, total_below, nth, lifted, IsTable, is_held}
-use Rattle.cr_match.proofs.Common.{slot_of, slots, IsBest, Slot, AllSuit, PricedAreFull, has_paper, has_member}
-use Rattle.cr_match.specs.Earlier.{Kept}
-use Rattle.cr_match.specs.Slack as slack
-use Rattle.cr_match.proofs.Alike.{bit, zero_slot}
-use Rattle.cr_match.proofs.Inside.{count_cons, no_paper, no_member}
-use Rattle.cr_match.proofs.Room.{pick_member, total_below_none, total_below_add, total_below_same}
-use Rattle.cr_match.proofs.Counts.{same_total}
-use Rattle.cr_match.proofs.Starts.{are_inside}
-use Rattle.cr_match.proofs.Toggled.{cell_one, one_cell, cell_none, holds_cases}
-use Rattle.cr_match.proofs.Turned.{at_other}
+-- The pairs that are held: how many a paper has, and a member, and what they weigh above their prices.
+use Rattle.cr_match.proofs.Common.{All, All-from_get_or, AreDistinct, Board, Bool, Choice, Holds, IsApart, IsBest}
+use Rattle.cr_match.proofs.Common.{IsBoardFor, IsCounted, IsPlan, Levels, List, Pair, above, ap, arith, cases_lt, cell}
+use Rattle.cr_match.proofs.Common.{chosen, count_by, eq-eqb, eqb-true, false, get_or, inl, inr, ints, is_held, length}
+use Rattle.cr_match.proofs.Common.{lifted, map, nat_tests, negsuc, nth, of_member, of_paper, pos, price_of, refl, subst}
+use Rattle.cr_match.proofs.Common.{suc, sym, true, worth, zero, zero_pair, ℕ, ℤ, ◌&&◌, ◌+ℤ◌, ◌-ℤ◌, ◌<◌, ◌==◌, ◌∙◌}
+use Rattle.cr_match.proofs.Common.{◌∷◌, ◌≡◌, ◌≢◌, ◌≤ℤ◌, ◌≤◌, ◌⊎◌, lowered, []}
+use Rattle.std.proofs.lemmas.Bool.{ne_eqb}
+use Rattle.std.proofs.lemmas.List.{get_or-map}
+use Rattle.cr_match.proofs.Flipped.{cell_none, cell_one, holds_cases, one_cell, place_cases}
+use Rattle.cr_match.proofs.Rivals.{ArePriced, gap_at}
+use Rattle.cr_match.proofs.Room.{by_place, count_kept, inside_all, kept_all, same_total}
+use Rattle.cr_match.proofs.Sums.{Suits, bit, count_cons}
+use Rattle.cr_match.proofs.Turned.{no_member}
 
-one_is : (n : ℕ) → (n == 1) ≡ true → n ≡ 1
-one_is n e = grind (arith, nat_tests)
+pub held_is : (b : Board) (c : Choice) (e : Pair) → is_held b c e ≡ true → Holds b c e.paper e.member
+held_is b c e h = one_cell b c e.paper e.member (eqb-true (cell b c e.paper e.member) 1 h)
 
-is_one : (n : ℕ) → n ≡ 1 → (n == 1) ≡ true
-is_one n e = grind (arith, nat_tests)
+pub is_held_if : (b : Board) (c : Choice) (e : Pair) → Holds b c e.paper e.member → is_held b c e ≡ true
+is_held_if b c e h = eq-eqb (cell b c e.paper e.member) 1 (cell_one b c e.paper e.member h)
 
-isnt_one : (n : ℕ) → n ≡ 0 → (n == 1) ≡ false
-isnt_one n e = grind (arith, nat_tests)
+pub not_held_if : (b : Board) (c : Choice) (e : Pair) → (Holds b c e.paper e.member → ⊥) → is_held b c e ≡ false
+not_held_if b c e h =
+    ne_eqb (cell b c e.paper e.member) 1 (λ one. absurd (omega (arith, one, cell_none b c e.paper e.member h)))
 
-pub held_is : (d : Draft) (e : Pair) → is_held d e ≡ true → Holds d e.paper e.member
-held_is d e h = one_cell d e.paper e.member (one_is (cell d e.paper e.member) h)
-
-pub is_held_if : (d : Draft) (e : Pair) → Holds d e.paper e.member → is_held d e ≡ true
-is_held_if d e h = is_one (cell d e.paper e.member) (cell_one d e.paper e.member h)
-
-pub not_held_if : (d : Draft) (e : Pair) → (Holds d e.paper e.member → ⊥) → is_held d e ≡ false
-not_held_if d e h = isnt_one (cell d e.paper e.member) (cell_none d e.paper e.member h)
-
-pub held_isnt : (d : Draft) (e : Pair) → is_held d e ≡ false → Holds d e.paper e.member → ⊥
-held_isnt d e h has = absurd (let c = sym (is_held_if d e has) ∙ h in cc)
-
--- made of pairs
+pub held_isnt : (b : Board) (c : Choice) (e : Pair) → is_held b c e ≡ false → Holds b c e.paper e.member → ⊥
+held_isnt b c e h has = absurd (let k = sym (is_held_if b c e has) ∙ h in cc)
 
 above_pos : (y : ℤ) → pos 0 ≤ℤ y → pos (above y) ≡ y
 above_pos (pos n) h = refl
@@ -45,20 +33,7 @@ above_pos (negsuc n) h = absurd (omega (arith, ints, h))
 pub lifted_is : (e : Pair) → negsuc 19 ≤ℤ e.weight → pos (lifted e) ≡ (e.weight +ℤ pos 1073741824)
 lifted_is e low = above_pos (e.weight +ℤ pos 1073741824) (omega (arith, ints, low))
 
-pub slots_for : (d : Draft) (papers members : ℕ) (es : List Pair) → AreInside papers members es → AreBy IsFor es (slots d es)
-slots_for d papers members [] h = tt
-slots_for d papers members (e ∷ es) h = ((refl, refl, lifted_is e h.2), slots_for d papers members es h.4)
-
-pub slots_alike : (c d : Draft) (es : List Pair) → Alike (slots c es) (slots d es)
-slots_alike c d [] = tt
-slots_alike c d (e ∷ es) = (refl, refl, refl, slots_alike c d es)
-
-pub slots_length : (d : Draft) (es : List Pair) → length (slots d es) ≡ length es
-slots_length d [] = refl
-slots_length d (e ∷ es) =
-    let l : length (slots d (e ∷ es)) ≡ suc (length (slots d es)) = refl in
-    let k : length (e ∷ es) ≡ suc (length es) = refl in
-    omega (arith, l, k, slots_length d es)
+-- pairs that are apart
 
 more : (e : Pair) (es : List Pair) (j : ℕ) → suc j < length (e ∷ es) → j < length es
 more e es j lt = let k : length (e ∷ es) ≡ suc (length es) = refl in omega (arith, lt, k)
@@ -66,238 +41,193 @@ more e es j lt = let k : length (e ∷ es) ≡ suc (length es) = refl in omega (
 none : (j : ℕ) → j < length {A = Pair} [] → ⊥
 none j lt = absurd (let k : length {A = Pair} [] ≡ 0 = refl in omega (arith, lt, k))
 
-pub slots_at : (d : Draft) (es : List Pair) (j : ℕ) → j < length es → get_or (slots d es) j zero_slot ≡ slot_of d (nth es j)
-slots_at d [] j lt = absurd (none j lt)
-slots_at d (e ∷ es) zero lt = refl
-slots_at d (e ∷ es) (suc j) lt = slots_at d es j (more e es j lt)
+abbrev pub Differ : Pair → Pair → Type 0
+Differ e f = (e.paper ≢ f.paper) ⊎ (e.member ≢ f.member)
 
--- a pair within bounds, by its place
-pub inside_at : (papers members : ℕ) (es : List Pair) → AreInside papers members es → (j : ℕ) → j < length es
-    → ((nth es j).paper < papers) × ((nth es j).member < members) × (negsuc 19 ≤ℤ (nth es j).weight)
-    × ((nth es j).weight ≤ℤ pos 20)
-inside_at papers members [] h j lt = absurd (none j lt)
-inside_at papers members (e ∷ es) h zero lt = (h.0, h.1, h.2, h.3)
-inside_at papers members (e ∷ es) h (suc j) lt = inside_at papers members es h.4 j (more e es j lt)
-
--- pairs that are apart
-
-pub apart_at : (e : Pair) (es : List Pair) → IsApart e es → (j : ℕ) → j < length es
-    → ((nth es j).paper ≢ e.paper) ⊎ ((nth es j).member ≢ e.member)
+apart_at : (e : Pair) (es : List Pair) → IsApart e es → (j : ℕ) → j < length es → Differ (nth es j) e
 apart_at e [] h j lt = absurd (none j lt)
 apart_at e (f ∷ fs) h zero lt = h.0
 apart_at e (f ∷ fs) h (suc j) lt = apart_at e fs h.1 j (more f fs j lt)
 
-pub distinct_at : (es : List Pair) → AreDistinct es → (i j : ℕ) → i < j → j < length es
-    → ((nth es j).paper ≢ (nth es i).paper) ⊎ ((nth es j).member ≢ (nth es i).member)
+pub distinct_at : (es : List Pair) → AreDistinct es → (i j : ℕ) → i < j → j < length es → Differ (nth es j) (nth es i)
 distinct_at [] h i j lt lj = absurd (none j lj)
 distinct_at (e ∷ es) h i zero lt lj = absurd (omega (arith, lt))
 distinct_at (e ∷ es) h zero (suc j) lt lj = apart_at e es h.0 j (more e es j lj)
 distinct_at (e ∷ es) h (suc i) (suc j) lt lj = distinct_at es h.1 i j (omega (arith, lt)) (more e es j lj)
 
--- a test of one place: held, and of this paper and this member
+pub other_pair : (es : List Pair) → AreDistinct es → (i j : ℕ) → i < length es → j < length es → j ≢ i
+    → Differ (nth es j) (nth es i)
+other_pair es h i j li lj ne = elim (cases_lt j i) [
+  | inl less ↦ elim (distinct_at es h j i less li) [ inl x ↦ inl (λ e. x (sym e)) | inr x ↦ inr (λ e. x (sym e)) ]
+  | inr le ↦ distinct_at es h i j (omega (arith, le, ne)) lj
+]
 
-abbrev IsPlace : (Slot → Bool) → ℕ → ℕ → Type 0
-IsPlace f q m = (s : Slot) → f s ≡ true → (s.chosen ≡ true) × (s.paper ≡ q) × (s.member ≡ m)
+-- counts of tests that one pair passes at most
 
-abbrev HasPlace : (Slot → Bool) → ℕ → ℕ → Type 0
-HasPlace f q m = (s : Slot) → s.chosen ≡ true → s.paper ≡ q → s.member ≡ m → f s ≡ true
-
-no_bit : (c : Bool) → (c ≡ true → ⊥) → bit c ≡ 0
-no_bit true h = absurd (h refl)
-no_bit false h = refl
-
-count_empty : (f : Slot → Bool) (d : Draft) (es : List Pair)
-    → ((j : ℕ) → j < length es → f (slot_of d (nth es j)) ≡ true → ⊥) → count_by f (slots d es) ≡ 0
-count_empty f d [] h = refl
-count_empty f d (e ∷ es) h =
+pub count_none : (f : Pair → Bool) (es : List Pair) → ((j : ℕ) → j < length es → f (nth es j) ≡ false)
+    → count_by f es ≡ 0
+count_none f [] h = refl
+count_none f (e ∷ es) h =
     let k : length (e ∷ es) ≡ suc (length es) = refl in
     omega (
       arith,
-      count_cons f (slot_of d e) (slots d es),
-      no_bit (f (slot_of d e)) (h 0 (omega (arith, k))),
-      count_empty f d es (λ j lt. h (suc j) (omega (arith, lt, k))),
+      count_cons f e es,
+      ap bit (h 0 (omega (arith, k))),
+      count_none f es (λ j lt. h (suc j) (omega (arith, lt, k))),
     )
 
-count_one : (f : Slot → Bool) (q m : ℕ) (d : Draft) → IsPlace f q m → HasPlace f q m → Holds d q m → (es : List Pair)
-    → AreDistinct es → (j : ℕ) → j < length es → (nth es j).paper ≡ q → (nth es j).member ≡ m → count_by f (slots d es) ≡ 1
-count_one f q m d only has holds [] apart j lt ep em = absurd (none j lt)
-count_one f q m d only has holds (e ∷ es) apart zero lt ep em =
-    let held = is_held_if d e (subst (λ k. Holds d k e.member) (sym ep) (subst (λ k. Holds d q k) (sym em) holds)) in
+count_at : (f : Pair → Bool) (es : List Pair) (i : ℕ) → i < length es
+    → ((j : ℕ) → j < length es → j ≢ i → f (nth es j) ≡ false) → count_by f es ≡ bit (f (nth es i))
+count_at f [] i lt h = absurd (none i lt)
+count_at f (e ∷ es) zero lt h =
+    let k : length (e ∷ es) ≡ suc (length es) = refl in
     omega (
       arith,
-      count_cons f (slot_of d e) (slots d es),
-      ap bit (has (slot_of d e) held ep em),
-      count_empty f d es (λ j lj yes'. elim (apart_at e es apart.0 j lj) [
-        | inl ne ↦ ne ((only (slot_of d (nth es j)) yes').1 ∙ sym ep)
-        | inr ne ↦ ne ((only (slot_of d (nth es j)) yes').2 ∙ sym em)
-      ]),
+      count_cons f e es,
+      count_none f es (λ j lj. h (suc j) (omega (arith, lj, k)) (λ x. absurd (omega (arith, x)))),
     )
-count_one f q m d only has holds (e ∷ es) apart (suc j) lt ep em =
+count_at f (e ∷ es) (suc i) lt h =
+    let k : length (e ∷ es) ≡ suc (length es) = refl in
     omega (
       arith,
-      count_cons f (slot_of d e) (slots d es),
-      no_bit (f (slot_of d e)) (λ yes'. elim (apart_at e es apart.0 j (more e es j lt)) [
-        | inl ne ↦ ne (ep ∙ sym (only (slot_of d e) yes').1)
-        | inr ne ↦ ne (em ∙ sym (only (slot_of d e) yes').2)
-      ]),
-      count_one f q m d only has holds es apart.1 j (more e es j lt) ep em,
+      count_cons f e es,
+      ap bit (h 0 (omega (arith, k)) (λ x. absurd (omega (arith, x)))),
+      count_at f es i (more e es i lt) (λ j lj ne. h (suc j) (omega (arith, lj, k)) (λ x. ne (omega (arith, x)))),
     )
 
--- pairs are where something is held
-abbrev pub AreHeld : Draft → List Pair → ℕ → ℕ → Type 0
-AreHeld d es papers members = (q m : ℕ) → q < papers → m < members → Holds d q m
-    → (j : ℕ) × (j < length es) × ((nth es j).paper ≡ q) × ((nth es j).member ≡ m)
+pub none_past : (place : Pair → ℕ) (n m : ℕ) (es : List Pair) → n ≤ m → All (λ e. place e < n) es
+    → count_by (λ e. place e == m) es ≡ 0
+none_past place n m es past h = count_none (λ e. place e == m) es
+    (λ j lj. ne_eqb (place (nth es j)) m (λ e. absurd (omega (arith, e, past, h j zero_pair lj))))
 
-module _ (d : Draft) (papers members : ℕ) (es : List Pair) (inside : AreInside papers members es) (apart : AreDistinct es)
-    (held : AreHeld d es papers members) where
-  count_cell : (f : Slot → Bool) (q m : ℕ) → q < papers → m < members → IsPlace f q m → HasPlace f q m
-      → count_by f (slots d es) ≡ cell d q m
-  count_cell f q m lq lm only has = elim (holds_cases d q m) [
-    | inl holds ↦ let one = held q m lq lm holds in
-        count_one f q m d only has holds es apart one.0 one.1 one.2 one.3 ∙ sym (cell_one d q m holds)
-    | inr lacks ↦ count_empty f d es (λ j lt yes'.
-        let is = only (slot_of d (nth es j)) yes' in
-        lacks (subst (λ k. Holds d k m) is.1 (subst (λ k. Holds d (nth es j).paper k) is.2 (held_is d (nth es j) is.0))))
-        ∙ sym (cell_none d q m lacks)
+here_too : (c : Bool) (x q y m : ℕ) → x ≡ q → y ≡ m → ((c && (x == q)) && (y == m)) ≡ c
+here_too c x q y m e f = grind (arith, nat_tests)
+
+elsewhere : (c : Bool) (x q y m : ℕ) → (x ≢ q) ⊎ (y ≢ m) → ((c && (x == q)) && (y == m)) ≡ false
+elsewhere c x q y m (inl ne) = grind (arith, nat_tests)
+elsewhere c x q y m (inr ne) = grind (arith, nat_tests)
+
+turned : {A B : Type 0} → A ⊎ B → B ⊎ A
+turned (inl a) = inr a
+turned (inr b) = inl b
+
+module _ {es : List Pair} {b : Board} {c : Choice} (of : IsBoardFor es b) (counted : IsCounted b c)
+    (real : (p m : ℕ) → p < b.papers → m < b.members → Holds b c p m → worth b p m ≢ 0) where
+  -- a test that is passed by what is held at one place
+  count_cell : (f : Pair → Bool) (q m : ℕ) → q < b.papers → m < b.members
+      → ((e : Pair) → e.paper ≡ q → e.member ≡ m → f e ≡ is_held b c e)
+      → ((e : Pair) → (e.paper ≢ q) ⊎ (e.member ≢ m) → f e ≡ false) → count_by f es ≡ cell b c q m
+  count_cell f q m lq lm same other = elim (holds_cases b c q m) [
+    | inl has ↦ elim (of.none q m lq lm) [
+      | inl z ↦ absurd (real q m lq lm has z)
+      | inr one ↦ let is = same (nth es one.0) one.2 one.3 ∙ is_held_if b c (nth es one.0)
+          (subst (λ k. Holds b c k (nth es one.0).member) (sym one.2) (subst (Holds b c q) (sym one.3) has)) in
+          omega (
+            arith,
+            cell_one b c q m has,
+            ap bit is,
+            count_at f es one.0 one.1 (λ j lj ne. other (nth es j)
+                (elim (other_pair es of.distinct one.0 j one.1 lj ne) [
+                  | inl x ↦ inl (λ e. x (e ∙ sym one.2))
+                  | inr x ↦ inr (λ e. x (e ∙ sym one.3))
+                ])),
+          )
+    ]
+    | inr lacks ↦ count_none f es (λ j lj. elim (place_cases (nth es j).paper (nth es j).member q m) [
+      | inr ne ↦ other (nth es j) ne
+      | inl s ↦ same (nth es j) s.0 s.1 ∙ not_held_if b c (nth es j)
+          (λ has. lacks (subst (λ k. Holds b c k m) s.0 (subst (Holds b c (nth es j).paper) s.1 has)))
+    ]) ∙ sym (cell_none b c q m lacks)
   ]
 
-  slots_inside : AllInside papers members (slots d es)
-  slots_inside = are_inside papers members es (slots d es) inside (slots_for d papers members es inside)
+  pub count_papers : (q : ℕ) → q < b.papers → count_by (of_paper q) (chosen b c es) ≡ get_or c.given.items q 0
+  count_papers q lq = count_kept (is_held b c) (of_paper q) es
+      ∙ sym (by_place (λ e. is_held b c e && of_paper q e) (λ e. e.member) b.members es
+      (λ k d l. (inside_all b.papers b.members es of.inside k d l).1))
+      ∙ same_total (λ m. count_by (λ e. (is_held b c e && of_paper q e) && (e.member == m)) es) (cell b c q) b.members
+      (λ m lm. count_cell (λ e. (is_held b c e && of_paper q e) && (e.member == m)) q m lq lm
+      (λ e. here_too (is_held b c e) e.paper q e.member m) (λ e. elsewhere (is_held b c e) e.paper q e.member m))
+      ∙ sym (counted.given q lq)
 
-  -- each slot has one member, and one paper
-  by_place : (f : Slot → Bool) (place : Slot → ℕ) (n : ℕ)
-      → ((s : Slot) → s.paper < papers → s.member < members → place s < n) → (ss : List Slot)
-      → AllInside papers members ss → count_by f ss ≡ total_below (λ k. count_by (λ s. f s && (place s == k)) ss) n
-  by_place f place n less [] h = sym (total_below_none n)
-  by_place f place n less (s ∷ ss) h =
+  pub count_members : (m : ℕ) → m < b.members → count_by (of_member m) (chosen b c es) ≡ get_or c.used.items m 0
+  count_members m lm = count_kept (is_held b c) (of_member m) es
+      ∙ sym (by_place (λ e. is_held b c e && of_member m e) (λ e. e.paper) b.papers es
+      (λ k d l. (inside_all b.papers b.members es of.inside k d l).0))
+      ∙ same_total (λ q. count_by (λ e. (is_held b c e && of_member m e) && (e.paper == q)) es) (λ q. cell b c q m)
+      b.papers (λ q lq. count_cell (λ e. (is_held b c e && of_member m e) && (e.paper == q)) q m lq lm
+      (λ e x y. here_too (is_held b c e) e.member m e.paper q y x)
+      (λ e ne. elsewhere (is_held b c e) e.member m e.paper q (turned ne)))
+      ∙ sym (counted.used m lm)
+
+module _ {es : List Pair} {b : Board} (of : IsBoardFor es b) (j : ℕ) (lj : j < length es) where
+  pub inside_at : ((nth es j).paper < b.papers) × ((nth es j).member < b.members) × (negsuc 19 ≤ℤ (nth es j).weight)
+      × ((nth es j).weight ≤ℤ pos 20)
+  inside_at = inside_all b.papers b.members es of.inside j zero_pair lj
+
+  -- the weight of a pair is no 0
+  pub real_pair : worth b (nth es j).paper (nth es j).member ≢ 0
+  real_pair z =
+      absurd (omega (arith, ints, z, of.weights j lj, lifted_is (nth es j) inside_at.2, inside_at.2))
+
+-- prices as those of pairs
+
+abbrev pub paper_price : Levels → ℕ → ℤ
+paper_price v q = get_or (lowered v.papers.items) q (pos 0)
+
+abbrev pub member_price : Levels → ℕ → ℕ
+member_price v m = get_or v.members.items m 0
+
+module _ {es : List Pair} {b : Board} {v : Levels} {c : Choice} (of : IsBoardFor es b) (counted : IsCounted b c)
+    (best : IsBest b v c) where
+  pub real : (p m : ℕ) → p < b.papers → m < b.members → Holds b c p m → worth b p m ≢ 0
+  real p m lp lm has z = absurd (omega (arith, z, best.suits.held p m lp lm has, best.priced p lp))
+
+  pub gap_is : (j : ℕ) → j < length es → gap_at (paper_price v) (member_price v) (nth es j)
+      ≡ (pos (worth b (nth es j).paper (nth es j).member) -ℤ pos (price_of v (nth es j).paper (nth es j).member))
+  gap_is j lj =
+      let k = inside_at of j lj in
       omega (
         arith,
-        count_cons f s ss,
-        total_below_same (λ k. count_by (λ x. f x && (place x == k)) (s ∷ ss))
-            (λ k. bit (f s && (place s == k)) + count_by (λ x. f x && (place x == k)) ss) n
-            (λ k. count_cons (λ x. f x && (place x == k)) s ss),
-        total_below_add (λ k. bit (f s && (place s == k))) (λ k. count_by (λ x. f x && (place x == k)) ss) n,
-        pick_member (f s) (place s) n (less s h.0 h.1),
-        by_place f place n less ss h.2,
+        ints,
+        of.weights j lj,
+        lifted_is (nth es j) k.2,
+        get_or-map (λ x. pos x -ℤ pos 1073741824) v.papers.items (nth es j).paper 0 (pos 0)
+            (omega (arith, k.0, best.long.0)),
       )
 
-  eq_is : (a b : ℕ) → (a == b) ≡ true → a ≡ b
-  eq_is a b e = grind (arith, nat_tests)
-
-  is_eq : (a b : ℕ) → a ≡ b → (a == b) ≡ true
-  is_eq a b e = grind (arith, nat_tests)
-
-  and_left : (a b : Bool) → (a && b) ≡ true → a ≡ true
-  and_left true b h = refl
-  and_left false b h = absurd (let c = h in cc)
-
-  and_right : (a b : Bool) → (a && b) ≡ true → b ≡ true
-  and_right true b h = h
-  and_right false b h = absurd (let c = h in cc)
-
-  and_both : (a b : Bool) → a ≡ true → b ≡ true → (a && b) ≡ true
-  and_both true b h k = k
-  and_both false b h k = absurd (let c = h in cc)
-
-  three : (c : Bool) (x q y m : ℕ) → ((c && (x == q)) && (y == m)) ≡ true → (c ≡ true) × (x ≡ q) × (y ≡ m)
-  three c x q y m h =
-      let front = and_left (c && (x == q)) (y == m) h in (
-        and_left c (x == q) front,
-        eq_is x q (and_right c (x == q) front),
-        eq_is y m (and_right (c && (x == q)) (y == m) h),
+  pub suits_at : (j : ℕ) → j < length es → Suits (gap_at (paper_price v) (member_price v)) (is_held b c) (nth es j)
+  suits_at j lj =
+      let k = inside_at of j lj in (
+        (λ h. omega (
+          arith,
+          ints,
+          gap_is j lj,
+          best.suits.held (nth es j).paper (nth es j).member k.0 k.1 (held_is b c (nth es j) h),
+        )),
+        (λ h. omega (
+          arith,
+          ints,
+          gap_is j lj,
+          best.suits.left (nth es j).paper (nth es j).member k.0 k.1 (held_isnt b c (nth es j) h),
+        )),
       )
 
-  of_three : (c : Bool) (x q y m : ℕ) → c ≡ true → x ≡ q → y ≡ m → ((c && (x == q)) && (y == m)) ≡ true
-  of_three c x q y m h e f = and_both (c && (x == q)) (y == m) (and_both c (x == q) h (is_eq x q e)) (is_eq y m f)
+  pub suits_all : All (Suits (gap_at (paper_price v) (member_price v)) (is_held b c)) es
+  suits_all = All-from_get_or (Suits (gap_at (paper_price v) (member_price v)) (is_held b c)) es zero_pair suits_at
 
-  -- so they count what is held
-  pub papers_held : (q : ℕ) → q < papers → count_by (has_paper q) (slots d es) ≡ total_below (cell d q) members
-  papers_held q lq = by_place (has_paper q) (λ s. s.member) members (λ s _ lm. lm) (slots d es) slots_inside
-      ∙ same_total (λ m. count_by (λ s. has_paper q s && (s.member == m)) (slots d es)) (cell d q) members
-      (λ m lm. count_cell (λ s. has_paper q s && (s.member == m)) q m lq lm
-      (λ s h. three s.chosen s.paper q s.member m h) (λ s c e f. of_three s.chosen s.paper q s.member m c e f))
+  pub priced : ArePriced b.members b.load (member_price v) (chosen b c es)
+  priced m lm some = count_members of counted real m lm ∙ omega (arith, (best.fits m lm).1 some, no_member b m lm)
 
-  pub members_held : (m : ℕ) → m < members → count_by (has_member m) (slots d es) ≡ total_below (λ q. cell d q m) papers
-  members_held m lm = by_place (has_member m) (λ s. s.paper) papers (λ s lp _. lp) (slots d es) slots_inside
-      ∙ same_total (λ q. count_by (λ s. has_member m s && (s.paper == q)) (slots d es)) (λ q. cell d q m) papers
-      (λ q lq. count_cell (λ s. has_member m s && (s.paper == q)) q m lq lm
-      (λ s h. let t = three s.chosen s.member m s.paper q h in
-      (t.0, t.2, t.1)) (λ s c e f. of_three s.chosen s.member m s.paper q c f e))
-
--- what suits prices
-
-pub all_suit : (a b : List ℕ) (ss : List Slot) → ((j : ℕ) → j < length ss → slack.Suits a b (get_or ss j zero_slot))
-    → AllSuit a b ss
-all_suit a b [] h = tt
-all_suit a b (s ∷ ss) h =
-    let k : length (s ∷ ss) ≡ suc (length ss) = refl in
-    (h 0 (omega (arith, k)), all_suit a b ss (λ j lt. h (suc j) (omega (arith, lt, k))))
-
-module _ (b : Board) (v : Levels) (d : Draft) (es : List Pair) (inside : AreInside b.papers b.members es)
-    (apart : AreDistinct es) (table : IsTable es b) (best : IsBest b v d) where
-  pub are_held : AreHeld d es b.papers b.members
-  are_held q m lq lm holds = elim (table.none q m lq lm) [
-    | inl z ↦ absurd (omega (arith, z, best.suits.held q m lq lm holds, best.priced q lq))
-    | inr one ↦ one
-  ]
-
-  pub slots_suit : AllSuit v.papers.items v.members.items (slots d es)
-  slots_suit = all_suit v.papers.items v.members.items (slots d es) (λ j lt.
-      let lj : j < length es = omega (arith, lt, slots_length d es) in
-      let in' = inside_at b.papers b.members es inside j lj in
-      subst (slack.Suits v.papers.items v.members.items) (sym (slots_at d es j lj)) (
-        (λ c. omega (
-          arith,
-          table.weights j lj,
-          best.suits.held (nth es j).paper (nth es j).member in'.0 in'.1 (held_is d (nth es j) c),
-        )),
-        (λ c. omega (
-          arith,
-          table.weights j lj,
-          best.suits.left (nth es j).paper (nth es j).member in'.0 in'.1 (held_isnt d (nth es j) c),
-        )),
-      ))
-
-  sp : (q : ℕ) → q < b.papers → q < d.moves.papers
-  sp q lq = omega (arith, lq, best.alike.papers.1)
-
-  sm : (m : ℕ) → m < b.members → m < d.moves.members
-  sm m lm = omega (arith, lm, best.alike.members.1)
-
-  pub count_papers : (q : ℕ) → q < b.papers → count_by (has_paper q) (slots d es) ≡ get_or d.given.items q 0
-  count_papers q lq = papers_held d b.papers b.members es inside apart are_held q lq
-      ∙ ap (total_below (cell d q)) (sym best.alike.members.1) ∙ sym (best.draft.given q (sp q lq))
-
-  pub count_members : (m : ℕ) → m < b.members → count_by (has_member m) (slots d es) ≡ get_or d.used.items m 0
-  count_members m lm = members_held d b.papers b.members es inside apart are_held m lm
-      ∙ ap (total_below (λ q. cell d q m)) (sym best.alike.papers.1) ∙ sym (best.draft.used m (sm m lm))
-
-  all_inside : AllInside b.papers b.members (slots d es)
-  all_inside = slots_inside d b.papers b.members es inside apart are_held
-
-  no_at : (m : ℕ) → m < b.members → at d.moves.members m ≡ 0
-  no_at m lm = at_other d.moves.members m (λ e. absurd (omega (arith, e, sm m lm)))
-
-  light_at : (m : ℕ) → (m < b.members) ⊎ (b.members ≤ m) → count_by (has_member m) (slots d es) ≤ b.load
-  light_at m (inl lm) = omega (arith, count_members m lm, (best.fits m (sm m lm)).0)
-  light_at m (inr past) = omega (arith, no_member b.papers b.members m (slots d es) all_inside past)
-
-  pub filled : Filled b.want b.load b.papers 0 (slots d es)
-  filled = record {
-    full = λ q lq. count_papers q lq ∙ best.full q lq;
-    here = no_paper b.papers b.members b.papers (slots d es) all_inside (omega arith);
-    rest = λ q lq. no_paper b.papers b.members q (slots d es) all_inside (omega (arith, lq));
-    light = λ m. light_at m (cases_lt m b.members);
+  pub plan_of : IsPlan b.papers b.want b.load (chosen b c es)
+  plan_of = record {
+    full = λ q lq. count_papers of counted real q lq ∙ best.full q lq;
+    light = λ m. elim (cases_lt m b.members) [
+      | inl lm ↦ omega (arith, count_members of counted real m lm, (best.fits m lm).0)
+      | inr past ↦ omega (
+        arith,
+        none_past (λ e. e.member) b.members m (chosen b c es) past (kept_all
+            (λ e. e.member < b.members) (map (is_held b c) es) es
+            (λ k d l. (inside_all b.papers b.members es of.inside k d l).1)),
+      )
+    ];
   }
-
-  priced_at : (m : ℕ) → 0 < get_or v.members.items m 0 → (m < b.members) ⊎ (b.members ≤ m)
-      → count_by (has_member m) (slots d es) ≡ b.load
-  priced_at m some (inl lm) = count_members m lm ∙ omega (arith, (best.fits m (sm m lm)).1 some, no_at m lm)
-  priced_at m some (inr past) =
-      absurd (omega (arith, some, get_or_past v.members.items m 0 (omega (arith, past, best.alike.members.0))))
-
-  pub priced : PricedAreFull b.load v.members.items (slots d es)
-  priced m some = priced_at m some (cases_lt m b.members)
-
-  pub kept : Kept b.want b.load b.papers b.members v.papers.items v.members.items (slots d es)
-  kept = record { filled = filled; suits = slots_suit; priced = priced; inside = all_inside }

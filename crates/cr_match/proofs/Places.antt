@@ -1,8 +1,8 @@
 -- Places of rows as bits of words.
-use Rattle.cr_match.proofs.Common.{◌≡◌, ◌≢◌, inl, inr, ◌↔◌, ℕ, ◌+◌, ◌*◌, ◌/◌, ◌%◌, ◌^◌, ◌<◌, ◌≤◌, List, length}
-use Rattle.cr_match.proofs.Common.{get_or, set, get_or-set_other, get_or-set_same, eqb, true, eq-eqb, eqb-true, arith}
-use Rattle.cr_match.proofs.Common.{ap, sym, ◌∙◌, w64, cases_eq, shr_and_one, bit_at_set_same, bit_at_set_other}
-use Rattle.cr_match.proofs.Common.{bit_and, bit_or, bit_at, bit_not, OthersStay}
+use Rattle.cr_match.proofs.Common.{◌≡◌, ◌≢◌, inl, inr, ◌↔◌, ℕ, ◌+◌, ◌*◌, ◌/◌, ◌%◌, ◌^◌, ◌<◌, ◌≤◌, List, length, get_or}
+use Rattle.cr_match.proofs.Common.{set, get_or-set_other, get_or-set_same, eqb, true, eq-eqb, eqb-true, arith, ap, sym}
+use Rattle.cr_match.proofs.Common.{◌∙◌, w64, cases_eq, shr_and_one, bit_at_set_same, bit_at_set_other, bit_and, bit_or}
+use Rattle.cr_match.proofs.Common.{bit_at, bit_not, OthersStay}
 use Rattle.std.proofs.lemmas.Nat.{div-mul-add}
 use Rattle.std.proofs.lemmas.Nat.Bits.{bit_at_clear_same, bit_at_clear_other}
 use Rattle.cr_match.specs.Rows.{RowHas}
@@ -20,7 +20,8 @@ same_word width r s x y lx ly e =
     let p : s * width ≡ r * width = ap (λ n. n * width) (same_row width r s x y lx ly e) in omega arith
 
 -- one word changes, and of it one bit
-module _ (width : ℕ) (words : List ℕ) (r i new : ℕ) (inside : i < 64 * width) (long : r * width + width ≤ length words) where
+module _ (width : ℕ) (words : List ℕ) (r i new : ℕ) (inside : i < 64 * width)
+    (long : r * width + width ≤ length words) where
   here : get_or (set words (r * width + i / 64) new) (r * width + i / 64) 0 ≡ new
   here = get_or-set_same words (r * width + i / 64) new 0 (omega arith)
 
@@ -43,7 +44,8 @@ module _ (width : ℕ) (words : List ℕ) (r i new : ℕ) (inside : i < 64 * wid
         ((λ h. ap (λ w. bit_at w (j % 64)) (sym at) ∙ h), (λ h. ap (λ w. bit_at w (j % 64)) at ∙ h))
   ]
 
-module _ (width : ℕ) (words : List ℕ) (r i : ℕ) (inside : i < 64 * width) (long : r * width + width ≤ length words) where
+module _ (width : ℕ) (words : List ℕ) (r i : ℕ) (inside : i < 64 * width)
+    (long : r * width + width ≤ length words) where
   pub put_same : RowHas width (set words (r * width + i / 64)
       (bit_or (get_or words (r * width + i / 64) 0) (1 * 2 ^ (i % 64) % 2 ^ 64))) r i
   unfolding RowHas

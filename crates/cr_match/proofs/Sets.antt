@@ -1,7 +1,7 @@
 -- Sets of places, and how many they have.
 use Rattle.cr_match.proofs.Common.{◌≡◌, ◌≢◌, inl, inr, ◌↔◌, ℕ, zero, suc, ◌+◌, ◌*◌, ◌/◌, ◌%◌, ◌^◌, ◌<◌, ◌≤◌, List}
-use Rattle.cr_match.proofs.Common.{length, get_or, set, get_or-set_other, get_or-set_same, eqb, true, eq-eqb}
-use Rattle.cr_match.proofs.Common.{eqb-true, arith, ap, sym, ◌∙◌, w64, cases_eq, shr_and_one, bit_at-lt, bit_at-zero}
+use Rattle.cr_match.proofs.Common.{length, get_or, set, get_or-set_other, get_or-set_same, eqb, true, eq-eqb, eqb-true}
+use Rattle.cr_match.proofs.Common.{arith, ap, sym, ◌∙◌, w64, cases_eq, shr_and_one, bit_at-lt, bit_at-zero}
 use Rattle.cr_match.proofs.Common.{bit_at_set_same, bit_at_set_other, bit_and, bit_or, bit_at, gone}
 use Rattle.cr_match.specs.Rows.{Has}
 
@@ -36,9 +36,11 @@ module _ (s : List ℕ) (i : ℕ) (inside : i < 64 * length s) where
 
   same_below : (n : ℕ) → n ≤ i → gone with_bit n ≡ gone s n
   same_below zero le = omega arith
-  same_below (suc n) le = omega (arith, same_below n (omega (arith, le)), other_bit n (λ e. absurd (omega (arith, le, e))))
+  same_below (suc n) le =
+      omega (arith, same_below n (omega (arith, le)), other_bit n (λ e. absurd (omega (arith, le, e))))
 
-  bit_here : (Has s i → ⊥) → (bit_at (get_or s (i / 64) 0) (i % 64) ≡ 0) × (bit_at (get_or with_bit (i / 64) 0) (i % 64) ≡ 1)
+  bit_here : (Has s i → ⊥) → (bit_at (get_or s (i / 64) 0) (i % 64) ≡ 0)
+      × (bit_at (get_or with_bit (i / 64) 0) (i % 64) ≡ 1)
   unfolding Has
   bit_here none = (
     elim (cases_eq (bit_at (get_or s (i / 64) 0) (i % 64)) 1) [
@@ -64,6 +66,11 @@ pub gone_le : (s : List ℕ) (n : ℕ) → gone s n ≤ n
 gone_le s zero = omega arith
 gone_le s (suc n) = omega (arith, gone_le s n, bit_at-lt (get_or s (n / 64) 0) (n % 64))
 
+pub gone_none : (s : List ℕ) → ((k : ℕ) → get_or s k 0 ≡ 0) → (n : ℕ) → gone s n ≡ 0
+gone_none s zeros zero = omega arith
+gone_none s zeros (suc n) =
+    omega (arith, gone_none s zeros n, ap (λ w. bit_at w (n % 64)) (zeros (n / 64)), bit_at-zero (n % 64))
+
 none_bit : (s : List ℕ) (i : ℕ) → (Has s i → ⊥) → bit_at (get_or s (i / 64) 0) (i % 64) ≡ 0
 unfolding Has
 none_bit s i none = elim (cases_eq (bit_at (get_or s (i / 64) 0) (i % 64)) 1) [
@@ -80,4 +87,5 @@ gone-lt s i (suc n) none lt = elim (cases_eq n i) [
 
 pub clear_none : (s : List ℕ) → ((k : ℕ) → get_or s k 0 ≡ 0) → (j : ℕ) → Has s j → ⊥
 unfolding Has
-clear_none s zeros j has = absurd (omega (arith, has, ap (λ w. bit_at w (j % 64)) (zeros (j / 64)), bit_at-zero (j % 64)))
+clear_none s zeros j has =
+    absurd (omega (arith, has, ap (λ w. bit_at w (j % 64)) (zeros (j / 64)), bit_at-zero (j % 64)))

@@ -7,11 +7,7 @@ use Rattle.cr_match.specs.declared.problem.Problem.{Problem}
 use Rattle.cr_match.specs.declared.problem.Prices.{Prices}
 use Rattle.cr_match.specs.declared.problem.Solved.{Solved}
 use Rattle.cr_match.specs.declared.problem.Solved.TheVariants.{Best, NoPlan, OutOfMemory}
-use Rattle.cr_match.specs.Slack.{Slot}
 use Rattle.cr_match.specs.Plan.{kept, IsPlan, total_weight, bound, IsTooMuch}
-use Rattle.cr_match.specs.Labels.{Filled}
-use Rattle.cr_match.specs.Slack.{AllSuit, PricedAreFull}
-use Rattle.cr_match.specs.Copies.{AreBy, IsFor}
 
 -- every pair joins a paper and a member of the problem, and weighs -20 to 20
 abbrev pub AreInside : ℕ → ℕ → List Pair → Type 0
@@ -81,15 +77,6 @@ abbrev pub IsSolved : Problem → Solved → Type 0
 IsSolved problem (Best pairs sum prices) = IsGreatest problem pairs.items sum prices
 IsSolved problem (NoPlan papers) = HasNoPlan problem papers.items
 IsSolved problem OutOfMemory = Unit {0}
-
--- slots of the problem's pairs whose choice is a plan, and prices that show that none is worth more
-pub record IsChosen (problem : Problem) (a b : List ℕ) (ss : List Slot) : Type 0 where
-  pub are : AreBy IsFor problem.pairs.items ss
-  pub filled : Filled problem.per_paper problem.load problem.papers 0 ss
-  pub suits : AllSuit a b ss
-  pub priced : PricedAreFull problem.load b ss
-  pub papers : length a ≡ problem.papers
-  pub members : length b ≡ problem.members
 
 -- two lists of pairs in dictionary order, each pair by paper, then member
 abbrev pub IsBefore : List Pair → List Pair → Type 0

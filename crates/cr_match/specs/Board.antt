@@ -2,8 +2,10 @@
 use Rattle.std.specs.Prelude.{◌≡◌, ℕ, ◌+◌, ◌*◌, ◌<◌, ◌≤◌, ◌⊎◌, ◌↔◌, length, slice_index}
 use Rattle.cr_match.specs.declared.board.Board.{Board}
 use Rattle.cr_match.specs.declared.board.Levels.{Levels}
-use Rattle.cr_match.specs.declared.draft.Draft.{Draft}
+use Rattle.cr_match.specs.declared.draft.Choice.{Choice}
+use Rattle.cr_match.specs.declared.moves.Moves.{Moves}
 use Rattle.cr_match.specs.Draft.{Holds, IsFree}
+use Rattle.cr_match.specs.Search.{IsSized}
 
 -- what the pair is worth, or 0 where that is no pair
 abbrev pub worth : Board → ℕ → ℕ → ℕ
@@ -19,9 +21,9 @@ far = 536870912
 
 -- a table of one number a pair, each that is one worth `low` to 40 more
 pub record IsBoard (b : Board) : Type 0 where
+  pub sized : IsSized b
   pub long : length b.worth.items ≡ b.papers * b.members
   pub grid : b.papers * b.members ≤ 4096
-  pub sides : (b.papers ≤ 10000) × (b.members ≤ 10000)
   pub places : b.want * b.papers ≤ 512
   pub cells : (p m : ℕ) → p < b.papers → m < b.members
       → (worth b p m ≡ 0) ⊎ ((low ≤ worth b p m) × (worth b p m ≤ low + 40))
@@ -30,23 +32,22 @@ pub record IsBoard (b : Board) : Type 0 where
 abbrev pub price_of : Levels → ℕ → ℕ → ℕ
 price_of v p m = slice_index v.papers.items p + slice_index v.members.items m
 
--- a table, prices and a plan of as many papers and members
-pub record AreAlike (b : Board) (v : Levels) (d : Draft) : Type 0 where
-  pub papers : (length v.papers.items ≡ b.papers) × (d.moves.papers ≡ b.papers)
-  pub members : (length v.members.items ≡ b.members) × (d.moves.members ≡ b.members)
+-- a price for each paper and each member
+abbrev pub AreLong : Board → Levels → Type 0
+AreLong b v = (length v.papers.items ≡ b.papers) × (length v.members.items ≡ b.members)
 
 -- what is held is worth its prices or more, all else its prices or less
-pub record Suits (b : Board) (v : Levels) (d : Draft) : Type 0 where
-  pub held : (p m : ℕ) → p < b.papers → m < b.members → Holds d p m → price_of v p m ≤ worth b p m
-  pub left : (p m : ℕ) → p < b.papers → m < b.members → (Holds d p m → ⊥) → worth b p m ≤ price_of v p m
+pub record Suits (b : Board) (v : Levels) (c : Choice) : Type 0 where
+  pub held : (p m : ℕ) → p < b.papers → m < b.members → Holds b c p m → price_of v p m ≤ worth b p m
+  pub left : (p m : ℕ) → p < b.papers → m < b.members → (Holds b c p m → ⊥) → worth b p m ≤ price_of v p m
 
 -- what may change is what is worth its prices
-abbrev pub IsTight : Board → Levels → Draft → Type 0
-IsTight b v d = (p m : ℕ) → p < b.papers → m < b.members → IsFree d p m ↔ (worth b p m ≡ price_of v p m)
+abbrev pub IsTight : Board → Levels → Moves → Type 0
+IsTight b v u = (p m : ℕ) → p < b.papers → m < b.members → IsFree b u p m ↔ (worth b p m ≡ price_of v p m)
 
 -- how far prices go below the price of nobody
-pub record AreBounded (b : Board) (v : Levels) (d : Draft) : Type 0 where
-  pub lacking : (p : ℕ) → p < b.papers → slice_index d.given.items p < b.want
+pub record AreBounded (b : Board) (v : Levels) (c : Choice) : Type 0 where
+  pub lacking : (p : ℕ) → p < b.papers → slice_index c.given.items p < b.want
       → slice_index v.papers.items p + v.nobody ≤ low + 40
   pub floor : (p : ℕ) → p < b.papers → low ≤ slice_index v.papers.items p + v.nobody
   pub ceiling : (p : ℕ) → p < b.papers → slice_index v.papers.items p ≤ low + 40
@@ -54,6 +55,6 @@ pub record AreBounded (b : Board) (v : Levels) (d : Draft) : Type 0 where
 
 -- prices that can be added
 pub record AreSmall (b : Board) (v : Levels) : Type 0 where
-  pub long : (length v.papers.items ≡ b.papers) × (length v.members.items ≡ b.members)
+  pub long : AreLong b v
   pub papers : (p : ℕ) → p < b.papers → slice_index v.papers.items p ≤ low + 40
   pub members : (m : ℕ) → m < b.members → slice_index v.members.items m ≤ far

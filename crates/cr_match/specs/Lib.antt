@@ -5,10 +5,6 @@ pub mod Draft
 pub mod Board
 pub mod Tight
 pub mod Raise
-pub mod Slack
-pub mod Labels
-pub mod Copies
-pub mod Earlier
 pub mod Answer
 pub mod Settle
 pub mod Setup

@@ -1,20 +1,18 @@
--- Pairs settled one after another: the table of a problem, slots of what is held, and what is kept meanwhile.
-use Rattle.std.specs.Prelude.{◌≡◌, ◌≢◌, ℕ, ◌+◌, ◌<◌, ◌≤◌, ◌⊎◌, ◌↔◌, ◌==◌, Bool, List, [], ◌∷◌, length, slice_index, slice_index_or}
-use Rattle.std.specs.Prelude.{pos, ◌+ℤ◌, take}
-use Rattle.cr_match.specs.Board.{IsBoard, worth, price_of, AreAlike, Suits}
-use Rattle.cr_match.specs.Copies.{marks}
-use Rattle.cr_match.specs.Draft.{cell, Holds, IsDraft, IsFree, Fits, SameCell, SameSides, Turns, at}
-use Rattle.cr_match.specs.Earlier.{NoneBefore}
-use Rattle.cr_match.specs.Plan.{above}
-use Rattle.cr_match.specs.Rows.{Has}
-use Rattle.cr_match.specs.Search.{Takes, Drops, AreMoves, IsSearched}
-use Rattle.cr_match.specs.Slack.{Slot}
+-- Pairs settled one after another: the table of a problem, and what is kept meanwhile.
+use Rattle.std.specs.Prelude.{◌≡◌, ℕ, ◌<◌, ◌≤◌, ◌⊎◌, ◌↔◌, ◌==◌, Bool, List, length, map, slice_index}
+use Rattle.std.specs.Prelude.{slice_index_or}
+use Rattle.std.specs.Prelude.{true, false, pos, ◌+ℤ◌, ◌≤ℤ◌}
+use Rattle.cr_match.specs.Answer.{AreDistinct, AreInside}
+use Rattle.cr_match.specs.Board.{IsBoard, worth, price_of, AreLong, Suits}
+use Rattle.cr_match.specs.Draft.{cell, Alters, Fits, IsDraft, IsFree, Limits, Turns}
+use Rattle.cr_match.specs.Plan.{above, kept, IsPlan, total_weight}
+use Rattle.cr_match.specs.Search.{Takes}
 use Rattle.cr_match.specs.declared.board.Board.{Board}
 use Rattle.cr_match.specs.declared.board.Levels.{Levels}
-use Rattle.cr_match.specs.declared.draft.Draft.{Draft}
+use Rattle.cr_match.specs.declared.draft.Choice.{Choice}
+use Rattle.cr_match.specs.declared.moves.Moves.{Moves}
 use Rattle.cr_match.specs.declared.problem.Pair.{Pair}
 use Rattle.cr_match.specs.declared.problem.Problem.{Problem}
-use Rattle.cr_match.specs.declared.trail.Trail.{Trail}
 
 abbrev pub zero_pair : Pair
 zero_pair = record { paper = 0; member = 0; weight = pos 0 }
@@ -27,81 +25,68 @@ nth es j = slice_index_or es j zero_pair
 abbrev pub lifted : Pair → ℕ
 lifted e = above (e.weight +ℤ pos 1073741824)
 
--- the table has what each pair weighs, lifted, and 0 where there is none
-pub record IsTable (pairs : List Pair) (b : Board) : Type 0 where
-  pub weights : (j : ℕ) → j < length pairs → worth b (nth pairs j).paper (nth pairs j).member ≡ lifted (nth pairs j)
+-- the table of pairs: what each weighs, lifted, and 0 where there is none
+pub record IsBoardFor (es : List Pair) (b : Board) : Type 0 where
+  pub board : IsBoard b
+  pub inside : AreInside b.papers b.members es
+  pub distinct : AreDistinct es
+  pub weights : (j : ℕ) → j < length es → worth b (nth es j).paper (nth es j).member ≡ lifted (nth es j)
   pub none : (p m : ℕ) → p < b.papers → m < b.members → (worth b p m ≡ 0)
-      ⊎ ((j : ℕ) × (j < length pairs) × ((nth pairs j).paper ≡ p) × ((nth pairs j).member ≡ m))
+      ⊎ ((j : ℕ) × (j < length es) × ((nth es j).paper ≡ p) × ((nth es j).member ≡ m))
 
 -- the table of a problem
 pub record IsBoardOf (problem : Problem) (b : Board) : Type 0 where
-  pub board : IsBoard b
-  pub table : IsTable problem.pairs.items b
+  pub table : IsBoardFor problem.pairs.items b
   pub sides : (b.papers ≡ problem.papers) × (b.members ≡ problem.members)
   pub limits : (b.want ≡ problem.per_paper) × (b.load ≡ problem.load)
 
 -- whether the pair is held
-abbrev pub is_held : Draft → Pair → Bool
-is_held d e = cell d e.paper e.member == 1
+abbrev pub is_held : Board → Choice → Pair → Bool
+is_held b c e = cell b c e.paper e.member == 1
 
--- its slot
-abbrev pub slot_of : Draft → Pair → Slot
-slot_of d e = record { paper = e.paper; member = e.member; value = lifted e; chosen = is_held d e }
-
-abbrev pub slots : Draft → List Pair → List Slot
-slots d [] = []
-slots d (e ∷ es) = slot_of d e ∷ slots d es
+-- the pairs that are held
+abbrev pub chosen : Board → Choice → List Pair → List Pair
+chosen b c es = kept (map (is_held b c) es) es
 
 -- a full plan with prices that show that none is worth more
-pub record IsBest (b : Board) (v : Levels) (d : Draft) : Type 0 where
-  pub alike : AreAlike b v d
-  pub draft : IsDraft b.want b.load d
-  pub suits : Suits b v d
-  pub full : (p : ℕ) → p < b.papers → slice_index d.given.items p ≡ b.want
-  pub fits : Fits v.members.items b.load d.moves.members d
+pub record IsBest (b : Board) (v : Levels) (c : Choice) : Type 0 where
+  pub long : AreLong b v
+  pub suits : Suits b v c
+  pub full : (p : ℕ) → p < b.papers → slice_index c.given.items p ≡ b.want
+  pub fits : Fits b v.members.items b.members c
   pub priced : (p : ℕ) → p < b.papers → 0 < slice_index v.papers.items p
+
+-- marks that are the same before pair i
+abbrev pub SameTo : (Pair → Bool) → List Pair → List Bool → ℕ → Type 0
+SameTo h es cs i = (j : ℕ) → j < i → slice_index_or cs j false ≡ h (nth es j)
+
+-- of the plans that are worth as much, one that is the same before pair i has it only where this one does
+abbrev pub IsTurned : ℕ → ℕ → ℕ → List Pair → (Pair → Bool) → ℕ → Type 0
+IsTurned papers want load es h i = (cs : List Bool) → IsPlan papers want load (kept cs es)
+    → total_weight (kept (map h es) es) ≤ℤ total_weight (kept cs es) → SameTo h es cs i
+    → slice_index_or cs i false ≡ true → h (nth es i) ≡ true
+
+-- none comes before it within the first n pairs
+abbrev pub NoneBefore : ℕ → ℕ → ℕ → List Pair → (Pair → Bool) → ℕ → Type 0
+NoneBefore papers want load es h n = (i : ℕ) → i < n → IsTurned papers want load es h i
 
 -- of the pairs those before the i-th are settled: only later ones may change, if they are worth their prices; and no
 -- other plan that is worth as much comes before this one within the first k pairs
-pub record IsSettling (pairs : List Pair) (b : Board) (v : Levels) (d : Draft) (i k : ℕ) : Type 0 where
-  pub best : IsBest b v d
-  pub free : (p m : ℕ) → p < b.papers → m < b.members → IsFree d p m → worth b p m ≡ price_of v p m
-  pub tight : (j : ℕ) → i ≤ j → j < length pairs
-      → worth b (nth pairs j).paper (nth pairs j).member ≡ price_of v (nth pairs j).paper (nth pairs j).member
-      → IsFree d (nth pairs j).paper (nth pairs j).member
-  pub closed : (j : ℕ) → j < i → j < length pairs → IsFree d (nth pairs j).paper (nth pairs j).member → ⊥
-  pub spare : (x : ℕ) → x < b.members → Takes d.moves b.papers x ↔ (slice_index v.members.items x ≡ 0)
-  pub first : NoneBefore b.want b.load b.papers k (slots d pairs)
+pub record IsSettling (es : List Pair) (b : Board) (v : Levels) (c : Choice) (u : Moves) (i k : ℕ) : Type 0 where
+  pub best : IsBest b v c
+  pub draft : IsDraft b c u
+  pub free : (p m : ℕ) → p < b.papers → m < b.members → IsFree b u p m → worth b p m ≡ price_of v p m
+  pub tight : (j : ℕ) → i ≤ j → j < length es
+      → worth b (nth es j).paper (nth es j).member ≡ price_of v (nth es j).paper (nth es j).member
+      → IsFree b u (nth es j).paper (nth es j).member
+  pub closed : (j : ℕ) → j < i → j < length es → IsFree b u (nth es j).paper (nth es j).member → ⊥
+  pub spare : (x : ℕ) → x < b.members → Takes b u b.papers x ↔ (slice_index v.members.items x ≡ 0)
+  pub first : NoneBefore b.papers b.want b.load es (is_held b c) k
 
--- the pair may change no longer; all else is as it was
-pub record Closes (p m : ℕ) (c d : Draft) : Type 0 where
-  pub sides : SameSides c.moves d.moves
-  pub moves : AreMoves d.moves
-  pub held : d.held.items ≡ c.held.items
-  pub given : d.given.items ≡ c.given.items
-  pub used : d.used.items ≡ c.used.items
-  pub here : IsFree d p m → ⊥
-  pub takes : (q x : ℕ) → x < c.moves.members → (q ≢ p) ⊎ (x ≢ m) → Takes d.moves q x ↔ Takes c.moves q x
-  pub drops : (x q : ℕ) → q ≤ c.moves.papers → (x ≢ m) ⊎ (q ≢ p) → Drops d.moves x q ↔ Drops c.moves x q
-
--- the marks before pair i are as they were
-abbrev pub SameBefore : List Pair → ℕ → Draft → Draft → Type 0
-SameBefore pairs i c d = take i (marks (slots d pairs)) ≡ take i (marks (slots c pairs))
-
--- the paper has the member too, and that pair may not change
-pub record Adds (p m : ℕ) (c d : Draft) : Type 0 where
-  pub sides : SameSides c.moves d.moves
-  pub here : Holds d p m × (IsFree d p m → ⊥)
-  pub others : (q x : ℕ) → q < c.moves.papers → x < c.moves.members → (q ≢ p) ⊎ (x ≢ m) → SameCell q x c d
-  pub spare : (x : ℕ) → x < c.moves.members → Takes d.moves c.moves.papers x ↔ Takes c.moves c.moves.papers x
-  pub given : (q : ℕ) → q < c.moves.papers → slice_index d.given.items q ≡ slice_index c.given.items q + at p q
-  pub used : (x : ℕ) → x < c.moves.members → slice_index d.used.items x ≡ slice_index c.used.items x + at m x
-
--- a turn makes room for the pair, which then comes in
-abbrev pub Brings : ℕ → ℕ → ℕ → Draft → Draft → Type 0
-Brings load p m c e = (d : Draft) × Turns load p m c d × Adds p m d e
-
--- the member is reached, and nobody who is may drop the paper
-pub record IsBlocked (p m : ℕ) (d : Draft) (t : Trail) : Type 0 where
-  pub search : IsSearched d.moves p t
-  pub member : Has t.members.items m
+-- a turn makes room for the pair, which then comes in, and may not change
+pub record Brings (b : Board) (p m : ℕ) (c : Choice) (u : Moves) (e : Choice) (z : Moves) : Type 0 where
+  pub choice : Choice
+  pub moves : Moves
+  pub turns : Turns b p m c u choice moves
+  pub alters : Alters b p m true choice e
+  pub limits : Limits b e p m moves z

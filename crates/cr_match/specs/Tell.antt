@@ -1,16 +1,13 @@
--- Which papers a search has not reached.
-use Rattle.std.specs.Prelude.{ℕ, zero, suc, ◌-◌, ◌/◌, ◌%◌, List, [], ◌∷◌, slice_index}
-use Rattle.std.specs.Int.{bit_at}
+-- What is told of a search.
+use Rattle.std.specs.Prelude.{◌≡◌, ℕ, ℤ, ◌<◌, ◌-ℤ◌, pos, true, List, map, ◌↔◌}
+use Rattle.cr_match.specs.Plan.{DistinctBelow, among}
+use Rattle.cr_match.specs.Rows.{Has}
 
--- f of each of the n numbers from k on
-abbrev pub places : (ℕ → ℕ) → ℕ → ℕ → List ℕ
-places f k zero = []
-places f k (suc n) = f k ∷ places f (suc k) n
+-- the places below n that the set has, none twice
+pub record AreThose (set : List ℕ) (n : ℕ) (places : List ℕ) : Type 0 where
+  pub distinct : DistinctBelow n places
+  pub all : (q : ℕ) → (among places q ≡ true) ↔ ((q < n) × Has set q)
 
--- 1 where the set hasn't the place, 0 where it has
-abbrev pub lacks_bit : List ℕ → ℕ → ℕ
-lacks_bit set k = 1 - bit_at (slice_index set (k / 64)) (k % 64)
-
--- of each place below n
-abbrev pub labels : List ℕ → ℕ → List ℕ
-labels set n = places (lacks_bit set) 0 n
+-- prices of papers, lowered to what pairs weigh
+abbrev pub lowered : List ℕ → List ℤ
+lowered a = map (λ x. pos x -ℤ pos 1073741824) a

@@ -2,38 +2,35 @@
 use Rattle.std.specs.Prelude.{◌≡◌, ◌≢◌, ℕ, ◌<◌, ◌≤◌, ◌⊎◌, ◌↔◌, Bool, true}
 use Rattle.cr_match.specs.Search.{Takes, Drops, AreMoves}
 use Rattle.cr_match.specs.Board.{worth, price_of}
-use Rattle.cr_match.specs.Draft.{Holds, SameSides}
+use Rattle.cr_match.specs.Draft.{Holds}
 use Rattle.cr_match.specs.declared.board.Board.{Board}
 use Rattle.cr_match.specs.declared.board.Levels.{Levels}
-use Rattle.cr_match.specs.declared.draft.Draft.{Draft}
-use Rattle.cr_match.specs.declared.trail.Moves.{Moves}
-
--- all but what papers may take of members, and members drop of papers
-pub record Kept (c d : Draft) : Type 0 where
-  pub sides : SameSides c.moves d.moves
-  pub moves : AreMoves d.moves
-  pub held : d.held.items ≡ c.held.items
-  pub given : d.given.items ≡ c.given.items
-  pub used : d.used.items ≡ c.used.items
-  pub spare : (x : ℕ) → x < c.moves.members → Takes d.moves c.moves.papers x ↔ Takes c.moves c.moves.papers x
-  pub lack : (q : ℕ) → q ≤ c.moves.papers → Drops d.moves c.moves.members q ↔ Drops c.moves c.moves.members q
-  pub room : (x : ℕ) → x ≤ c.moves.members → Drops d.moves x c.moves.papers ↔ Drops c.moves x c.moves.papers
+use Rattle.cr_match.specs.declared.draft.Choice.{Choice}
+use Rattle.cr_match.specs.declared.moves.Moves.{Moves}
 
 -- of one pair, whether the paper may take the member, and whether she may drop it
-pub record Tells (p m : ℕ) (take drop : Bool) (u v : Moves) : Type 0 where
-  pub sides : SameSides u v
-  pub moves : AreMoves v
-  pub taken : Takes v p m ↔ (take ≡ true)
-  pub dropped : Drops v m p ↔ (drop ≡ true)
-  pub takes : (q x : ℕ) → x < u.members → (q ≢ p) ⊎ (x ≢ m) → Takes v q x ↔ Takes u q x
-  pub drops : (x q : ℕ) → q ≤ u.papers → (x ≢ m) ⊎ (q ≢ p) → Drops v x q ↔ Drops u x q
+pub record Tells (b : Board) (p m : ℕ) (take drop : Bool) (u v : Moves) : Type 0 where
+  pub moves : AreMoves b v
+  pub taken : Takes b v p m ↔ (take ≡ true)
+  pub dropped : Drops b v m p ↔ (drop ≡ true)
+  pub takes : (q x : ℕ) → x < b.members → (q ≢ p) ⊎ (x ≢ m) → Takes b v q x ↔ Takes b u q x
+  pub drops : (x q : ℕ) → q ≤ b.papers → (q ≢ p) ⊎ (x ≢ m) → Drops b v x q ↔ Drops b u x q
 
--- the pair may change if `tight`
-pub record IsTold (tight : Bool) (c d : Draft) (p m : ℕ) : Type 0 where
-  pub takes : Takes d.moves p m ↔ ((Holds c p m → ⊥) × (tight ≡ true))
-  pub drops : Drops d.moves m p ↔ (Holds c p m × (tight ≡ true))
+-- all but what papers may take of members, and members drop of papers
+pub record Stays (b : Board) (u v : Moves) : Type 0 where
+  pub moves : AreMoves b v
+  pub spare : (x : ℕ) → x < b.members → Takes b v b.papers x ↔ Takes b u b.papers x
+  pub lack : (q : ℕ) → q ≤ b.papers → Drops b v b.members q ↔ Drops b u b.members q
+  pub room : (x : ℕ) → x ≤ b.members → Drops b v x b.papers ↔ Drops b u x b.papers
 
--- the pair may change if it is worth its prices
-pub record AreTold (b : Board) (v : Levels) (c d : Draft) (p m : ℕ) : Type 0 where
-  pub takes : Takes d.moves p m ↔ ((Holds c p m → ⊥) × (worth b p m ≡ price_of v p m))
-  pub drops : Drops d.moves m p ↔ (Holds c p m × (worth b p m ≡ price_of v p m))
+-- the pair may change if `tight`: what is held the member may drop, what isn't the paper may take
+abbrev pub IsTold : Type 0 → Board → Choice → Moves → ℕ → ℕ → Type 0
+IsTold tight b c v p m = (Takes b v p m ↔ ((Holds b c p m → ⊥) × tight)) × (Drops b v m p ↔ (Holds b c p m × tight))
+
+-- if it is worth its prices
+abbrev pub AreTold : Board → Levels → Choice → Moves → ℕ → ℕ → Type 0
+AreTold b v c u p m = IsTold (worth b p m ≡ price_of v p m) b c u p m
+
+-- a pair is as it was
+abbrev pub IsSame : Board → Moves → Moves → ℕ → ℕ → Type 0
+IsSame b u v p m = (Takes b v p m ↔ Takes b u p m) × (Drops b v m p ↔ Drops b u m p)

@@ -1,4 +1,4 @@
-//! Whether a problem may be asked.
+//! Tests whether a problem may be asked.
 
 ghost use Rattle.std.specs.Prelude.{◌≡◌, ◌+◌, ◌*◌, ◌<◌, ◌≤◌, ◌↔◌, IsTrue, IfNone, IfSome, length};
 ghost use Rattle.cr_match.specs.Answer.{AreDistinct, AreInside, IsAsked, IsProblem};
@@ -6,7 +6,7 @@ ghost use Rattle.cr_match.specs.Answer.{AreDistinct, AreInside, IsAsked, IsProbl
 use crate::problem::{Pair, Problem};
 use crate::rows::{has, put};
 
-/// Whether each pair joins a paper and a member that there are, and weighs -20 to 20.
+/// Returns whether each pair joins a paper and a member that there are, and weighs -20 to 20.
 pub fn are_inside(pairs: &[Pair], papers: u32, members: u32) -> bool
     ensures { IsTrue result ↔ AreInside papers members pairs.now }
 {
@@ -18,15 +18,20 @@ pub fn are_inside(pairs: &[Pair], papers: u32, members: u32) -> bool
     true
 }
 
-/// The place of a pair in a table of 4,096 at most.
+/// Returns the place of a pair in a table of at most 4,096.
 fn cell_of(pair: &Pair, members: u32) -> usize
     requires small { pair.now.paper * members + pair.now.member < 4096 }
-    ensures { result ≡ pair.now.paper * members + pair.now.member }
+    ensures is { result ≡ pair.now.paper * members + pair.now.member }
+    ensures small { result < 4096 }
 {
     (pair.paper * members + pair.member) as usize
 }
 
-/// Whether no pair stands twice. Takes no memory but 512 bytes.
+/// Returns whether no pair stands twice.
+///
+/// # Cost
+///
+/// One walk over the pairs, and 512 bytes of the stack.
 pub fn are_distinct(pairs: &[Pair], papers: u32, members: u32) -> bool
     requires grid { papers * members ≤ 4096 }
     requires inside { AreInside papers members pairs.now }
@@ -44,9 +49,14 @@ pub fn are_distinct(pairs: &[Pair], papers: u32, members: u32) -> bool
 }
 
 impl Problem {
-    /// The problem with these parts. None where `per_paper` times the papers passes 512, papers times members passes
-    /// 4,096, there are more than 10,000 papers or members or 4,096 pairs, a pair's paper or member isn't there, a
-    /// weight isn't -20 to 20, or a pair of the same paper and member stands twice.
+    /// Returns the problem with these parts, or `None` if `per_paper` times the papers exceeds 512, papers times
+    /// members exceeds 4,096, there are more than 10,000 papers or members or more than 4,096 pairs, `per_paper`
+    /// exceeds 512, a pair's paper or member isn't there, a weight isn't -20 to 20, or a pair of the same paper and
+    /// member stands twice.
+    ///
+    /// # Cost
+    ///
+    /// Two walks over the pairs.
     pub fn new(
         papers: u32,
         members: u32,

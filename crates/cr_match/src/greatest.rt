@@ -1,42 +1,40 @@
-//! A plan of the greatest sum.
+//! A plan of the greatest sum, and the first of these.
 
 ghost use Rattle.std.specs.Prelude.{◌≡◌, ℕ, ◌*◌, ◌≤◌, ◌<◌, ◌↔◌, true, false, length, slice_index, IfOk};
 ghost use Rattle.cr_match.specs.Answer.{IsAscending, IsFirstSolved, IsProblem, IsSolved};
 ghost use Rattle.cr_match.specs.Raise.{IsStuck, placed};
 ghost use Rattle.cr_match.specs.Search.{AreMoves, IsRoomy};
 ghost use Rattle.cr_match.specs.Settle.{IsBest, IsBoardOf};
-ghost use Rattle.cr_match.specs.Solve.{IsFilled, IsOrdered, Spares};
+ghost use Rattle.cr_match.specs.Solve.{IsFilled, IsOrdered, IsSolution, Spares};
 
-use crate::board::Levels;
-use crate::draft::tell_take;
+use crate::board::{Board, Levels};
+use crate::moves::{Moves, tell_take};
 use crate::problem::{Prices, Problem, Solved};
 use crate::raise::fill;
 use crate::settle::settle_all;
 use crate::setup::{Work, new_work};
 use crate::tell::{chosen_pairs, lower, reached_papers, weight_of, widen};
-use crate::trail::Moves;
 use std::alloc::{AllocError, Global};
 
-/// Says whom the spare paper may take: whoever has no price.
-fn tell_spare(levels: &Levels, moves: &mut Moves)
-    requires { AreMoves moves.old × (length levels.now.members.items ≡ moves.old.members) }
-    ensures { Spares levels.now moves.old moves.new }
+/// Lets the spare paper take each member whose price is 0.
+fn tell_spare(board: &Board, levels: &Levels, moves: &mut Moves)
+    requires { AreMoves board.now moves.old × (length levels.now.members.items ≡ board.now.members) }
+    ensures { Spares board.now levels.now moves.old moves.new }
 {
-    let papers = moves.papers;
     for m in 0..levels.members.len() {
         let free = levels.members[m] == 0;
-        tell_take(moves, papers, m, free);
+        tell_take(moves, board, board.papers, m, free);
     }
 }
 
-/// Changes a plan of the greatest sum into the first in order of that sum.
+/// Changes a plan of the greatest sum into the first of that sum.
 fn order(problem: &Problem, work: &mut Work)
-    requires { IsProblem problem.now × IsFilled problem.now work.old }
+    requires { IsFilled problem.now work.old }
     ensures { IsOrdered problem.now work.new }
 {
-    tell_spare(&work.levels, &mut work.draft.moves);
+    tell_spare(&work.board, &work.levels, &mut work.draft.moves);
     settle_all(
-        problem,
+        &problem.pairs,
         &work.board,
         &work.levels,
         &mut work.draft,
@@ -44,10 +42,10 @@ fn order(problem: &Problem, work: &mut Work)
     );
 }
 
-/// The same where that is asked for, and no change where it isn't.
+/// Does so if `first`.
 fn order_if(problem: &Problem, first: bool, work: &mut Work)
-    requires { IsProblem problem.now × IsFilled problem.now work.old }
-    ensures best { IsBest work.new.board work.new.levels work.new.draft × IsBoardOf problem.now work.new.board }
+    requires { IsFilled problem.now work.old }
+    ensures best { IsSolution problem.now work.new }
     ensures first { first ≡ true → IsOrdered problem.now work.new }
 {
     if !first {
@@ -56,15 +54,19 @@ fn order_if(problem: &Problem, first: bool, work: &mut Work)
     order(problem, work);
 }
 
-/// The plan that is held, its sum and its prices.
+/// Returns the plan that is held, its sum and its prices.
+///
+/// # Errors
+///
+/// If memory runs out.
 fn tell_best(alloc: Global, problem: &Problem, work: &Work) -> Result<Solved, AllocError>
     requires problem { IsProblem problem.now }
-    requires best { IsBest work.now.board work.now.levels work.now.draft × IsBoardOf problem.now work.now.board }
+    requires best { IsSolution problem.now work.now }
     ensures solved { IfOk result (λ solved. IsSolved problem.now solved) }
     ensures first { IfOk result (λ solved. IsOrdered problem.now work.now → IsAscending problem.now.pairs.items
         → IsFirstSolved problem.now solved) }
 {
-    let pairs = chosen_pairs(alloc, &problem.pairs, &work.draft)?;
+    let pairs = chosen_pairs(alloc, &problem.pairs, &work.board, &work.draft.choice)?;
     let sum = weight_of(&pairs);
     let papers = lower(alloc, &work.levels.papers)?;
     let members = widen(alloc, &work.levels.members)?;
@@ -75,22 +77,31 @@ fn tell_best(alloc: Global, problem: &Problem, work: &Work) -> Result<Solved, Al
     })
 }
 
-/// The papers that are reached, which have no plan.
+/// Returns the papers that are reached, which have no plan.
+///
+/// # Errors
+///
+/// If memory runs out.
 fn tell_none(alloc: Global, problem: &Problem, work: &Work) -> Result<Solved, AllocError>
     requires problem { IsProblem problem.now × IsBoardOf problem.now work.now.board }
-    requires stuck { IsStuck work.now.board work.now.draft work.now.order.trail
-        × (placed work.now.board work.now.draft < work.now.board.want * work.now.board.papers) }
+    requires stuck { IsStuck work.now.board work.now.draft.choice work.now.draft.moves work.now.order.trail
+        × (placed work.now.board work.now.draft.choice < work.now.board.want * work.now.board.papers) }
     ensures { IfOk result (λ solved. IsSolved problem.now solved × IsFirstSolved problem.now solved) }
 {
     let papers = reached_papers(alloc, &work.order.trail.papers, work.board.papers)?;
     Ok(Solved::NoPlan { papers })
 }
 
-/// Makes what a search works on, searches, and tells what there is.
+/// Searches, and returns what there is.
+///
+/// # Errors
+///
+/// If memory runs out.
 fn solve_in(alloc: Global, problem: &Problem, first: bool) -> Result<Solved, AllocError>
     requires { IsProblem problem.now }
     ensures solved { IfOk result (λ solved. IsSolved problem.now solved) }
-    ensures first { IfOk result (λ solved. first ≡ true → IsAscending problem.now.pairs.items → IsFirstSolved problem.now solved) }
+    ensures first { IfOk result (λ solved. first ≡ true → IsAscending problem.now.pairs.items
+        → IsFirstSolved problem.now solved) }
 {
     let mut work = new_work(alloc, problem)?;
     if !fill(
@@ -105,11 +116,13 @@ fn solve_in(alloc: Global, problem: &Problem, first: bool) -> Result<Solved, All
     tell_best(alloc, problem, &work)
 }
 
-/// A plan of the greatest sum with the prices that show it, or the papers that show that there is no plan.
+/// Returns a plan of the greatest sum with the prices that show it, or the papers that show that there is no plan.
 ///
-/// A search for each place, of `per_paper` a paper, and a part of one more each time that prices move. A search looks at
-/// most once at each paper and each member, and at what each may change, 64 at a time; a move of prices at each paper and
-/// member together twice.
+/// # Cost
+///
+/// A search for each place, of `per_paper` a paper, and a part of one more each time that prices move. A search looks
+/// at most once at each paper and each member, and at what each may change, 64 at a time. A move of prices looks twice
+/// at each paper and member together.
 pub fn solve(problem: &Problem) -> Solved
     requires { IsProblem problem.now }
     ensures { IsSolved problem.now result }
@@ -120,12 +133,13 @@ pub fn solve(problem: &Problem) -> Solved
     }
 }
 
-/// The first of the plans of the greatest sum, or the papers that show that there is no plan. Where the pairs stand in
+/// Returns the first plan of the greatest sum, or the papers that show that there is no plan. If the pairs are in
 /// order, by paper, then member, every other plan of that sum comes after it, as lists of pairs in dictionary order.
 ///
-/// After what [`solve`] does, a search at most for each paper and for each pair that comes in, of which there are at most
-/// as many as places, where the pairs of a paper stand together; otherwise one for each pair that is worth its prices and
-/// stays out, too.
+/// # Cost
+///
+/// What [`solve`] takes. Then a search at most for each paper and for each pair that comes in, at most one a place, if
+/// the pairs of each paper stand together. Otherwise one also for each pair that is worth its prices and stays out.
 pub fn first_best(problem: &Problem) -> Solved
     requires { IsProblem problem.now }
     ensures solved { IsSolved problem.now result }

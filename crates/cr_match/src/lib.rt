@@ -26,6 +26,7 @@ mod asked;
 mod board;
 mod draft;
 mod greatest;
+mod moves;
 mod problem;
 mod raise;
 mod rows;

@@ -2,19 +2,18 @@
 
 use std::alloc::Global;
 
-/// A paper and a member who may review it, both counted from 0, and what that is worth, -20 to 20.
+/// A paper and a member who may review it, with a weight.
 #[derive(Clone, Copy, PartialEq, Eq)]
 pub struct Pair {
-    /// The paper's place among the papers.
+    /// The paper's place among the papers, counted from 0.
     pub paper: u32,
-    /// The member's place among the members.
+    /// The member's place among the members, counted from 0.
     pub member: u32,
-    /// What it is worth that she reviews it.
+    /// What it is worth that the member reviews it, -20 to 20.
     pub weight: i32,
 }
 
-/// Each paper needs `per_paper` of the members, each of whom takes `load` papers at most. Only `pairs` may be chosen, of
-/// which none stands twice.
+/// Papers that need members. Only `pairs` may be chosen, of which none stands twice.
 #[derive(Drop)]
 pub struct Problem {
     /// How many papers there are.
@@ -29,8 +28,8 @@ pub struct Problem {
     pub pairs: Vec<Pair>,
 }
 
-/// Prices show how great a sum can be: `per_paper` times those of all papers, `load` times those of all members, and
-/// what each pair weighs above its two prices together. No plan's sum is greater.
+/// Prices, which bound each plan's sum: `per_paper` times those of all papers, `load` times those of all members, and
+/// what each pair weighs above its two prices, together.
 #[derive(Drop)]
 pub struct Prices {
     /// One for each paper, of either sign.
@@ -39,20 +38,20 @@ pub struct Prices {
     pub members: Vec<u64>,
 }
 
-/// What answers a problem.
+/// The answer to a problem.
 #[derive(Drop)]
 pub enum Solved {
-    /// The chosen pairs in the order of the problem's, the sum of their weights, and the prices that say the same sum.
+    /// The chosen pairs in the problem's order, the sum of their weights, and prices whose bound is that sum.
     Best {
         pairs: Vec<Pair>,
         sum: i64,
         prices: Prices,
     },
     /// Papers, none twice, for which the members have too little room: `per_paper` times their number is more than
-    /// what all members can take of them, each at most `load` and at most her pairs with them.
+    /// what all members can take of them, each at most `load` and at most the pairs that join them.
     NoPlan {
         papers: Vec<u32>,
     },
-    /// Want of memory.
+    /// Memory ran out.
     OutOfMemory,
 }

@@ -1,10 +1,11 @@
-//! Rows of bits.
+//! Sets of places as bits, 64 a word: one set, or a row of a table.
 
-ghost use Rattle.std.specs.Prelude.{◌≡◌, ◌≢◌, ℕ, ◌+◌, ◌*◌, ◌/◌, ◌%◌, ◌^◌, ◌<◌, ◌≤◌, ◌↔◌, IsTrue, IfSome, IfNone, length, slice_index, ◌-◌, min, ltb, if◌then◌else◌};
+ghost use Rattle.std.specs.Prelude.{◌≡◌, ◌≢◌, ℕ, ◌+◌, ◌*◌, ◌/◌, ◌%◌, ◌^◌, ◌<◌, ◌≤◌, ◌↔◌, IsTrue, IfSome, IfNone};
+ghost use Rattle.std.specs.Prelude.{length, slice_index, ◌-◌, min, ltb, if◌then◌else◌};
 ghost use Rattle.std.specs.Int.{bit_at};
 ghost use Rattle.cr_match.specs.Rows.{Has, RowHas, OthersStay, Covers, gone};
 
-/// Whether row r has the place.
+/// Returns whether row r has place i.
 pub fn has(words: &[u64], width: usize, r: usize, i: usize) -> bool
     requires inside { (i < 64 * width) × (r * width + width ≤ length words.now) }
     ensures { IsTrue result ↔ RowHas width words.now r i }
@@ -12,7 +13,7 @@ pub fn has(words: &[u64], width: usize, r: usize, i: usize) -> bool
     (words[r * width + i / 64] >> (i % 64)) & 1 == 1
 }
 
-/// Puts the place into row r.
+/// Puts place i into row r.
 pub fn put(words: &mut [u64], width: usize, r: usize, i: usize)
     requires inside { (i < 64 * width) × (r * width + width ≤ length words.old) }
     ensures same { RowHas width words.new r i }
@@ -21,7 +22,7 @@ pub fn put(words: &mut [u64], width: usize, r: usize, i: usize)
     words[r * width + i / 64] |= 1 << (i % 64);
 }
 
-/// Takes the place out of row r.
+/// Takes place i out of row r.
 pub fn cut(words: &mut [u64], width: usize, r: usize, i: usize)
     requires inside { (i < 64 * width) × (r * width + width ≤ length words.old) }
     ensures same { ¬ (RowHas width words.new r i) }
@@ -30,7 +31,7 @@ pub fn cut(words: &mut [u64], width: usize, r: usize, i: usize)
     words[r * width + i / 64] &= !(1 << (i % 64));
 }
 
-/// The bits of a word from place `from` on that the mask has not.
+/// Returns the bits of a word from place `from` on that the mask lacks.
 fn fresh(word: u64, mask: u64, from: usize) -> u64
     requires { from < 64 }
     ensures { (k : ℕ) → k < 64
@@ -39,7 +40,7 @@ fn fresh(word: u64, mask: u64, from: usize) -> u64
     word & !mask & (u64::MAX << from)
 }
 
-/// The first place from `from` on that row r has and the mask has not.
+/// Returns the first place from `from` on that row r has and the mask lacks, or `None` if there is none.
 pub fn next(words: &[u64], width: usize, r: usize, mask: &[u64], from: usize) -> Option<usize>
     requires inside { r * width + width ≤ length words.now }
     requires long { width ≤ length mask.now }
@@ -61,7 +62,7 @@ pub fn next(words: &[u64], width: usize, r: usize, mask: &[u64], from: usize) ->
     None
 }
 
-/// Whether the set has the place.
+/// Returns whether the set has place i.
 pub fn marked(set: &[u64], i: usize) -> bool
     requires inside { i < 64 * length set.now }
     ensures { IsTrue result ↔ Has set.now i }
@@ -69,9 +70,10 @@ pub fn marked(set: &[u64], i: usize) -> bool
     (set[i / 64] >> (i % 64)) & 1 == 1
 }
 
-/// Puts the place into the set.
+/// Puts place i into the set.
 pub fn mark(set: &mut [u64], i: usize)
     requires inside { i < 64 * length set.old }
+    ensures long { length set.new ≡ length set.old }
     ensures same { Has set.new i }
     ensures others { (j : ℕ) → j ≢ i → Has set.new j ↔ Has set.old j }
     ensures count { (n : ℕ) → (Has set.old i → ⊥) → i < n → gone set.new n ≡ gone set.old n + 1 }
@@ -79,16 +81,17 @@ pub fn mark(set: &mut [u64], i: usize)
     set[i / 64] |= 1 << (i % 64);
 }
 
-/// Takes all places out of the set.
+/// Empties the set.
 pub fn clear(set: &mut [u64])
-    ensures { (k : ℕ) → slice_index set.new k ≡ 0 }
+    ensures long { length set.new ≡ length set.old }
+    ensures zero { (k : ℕ) → slice_index set.new k ≡ 0 }
 {
     for word in set.iter_mut() {
         *word = 0;
     }
 }
 
-/// Puts the place into row r, or takes it out.
+/// Puts place i into row r if `bit`, and else takes it out.
 pub fn write(words: &mut [u64], width: usize, r: usize, i: usize, bit: bool)
     requires inside { (i < 64 * width) × (r * width + width ≤ length words.old) }
     ensures same { RowHas width words.new r i ↔ IsTrue bit }

@@ -1,167 +1,123 @@
-//! The first of the greatest sum.
+//! The first plan of the greatest sum.
 //!
-//! The pairs are settled one after another. One that is held stays. One that isn't, and is worth its prices, comes in
-//! where a search can make room for it at no cost; where none can, no best plan has it that agrees so far. What is settled
-//! may change no longer.
+//! The pairs are settled one after another. A pair that is held stays. Another that is worth its prices comes in if a
+//! search can make room for it at no cost. If none can, no best plan that agrees so far has it. What is settled changes
+//! no longer.
 //!
-//! What a search that failed has reached leads nowhere as long as nothing changes but that pairs of its own paper are
-//! settled, none of which is a step of it. So those that fail for a paper, one after another, share one search.
+//! What a search that failed has reached still leads nowhere while only pairs of its own paper are settled, since none
+//! of them is a step of it. So all pairs of a paper that fail, one after another, share one search.
 
 ghost use Rattle.std.specs.Prelude.{◌≡◌, ◌≢◌, ℕ, ◌+◌, ◌*◌, ◌^◌, ◌<◌, ◌≤◌, ◌⊎◌, ◌↔◌, ◌==◌, ◌&&◌, IsTrue, true, false};
-ghost use Rattle.std.specs.Prelude.{length, count_by, slice_index, take, if◌then◌else◌};
-ghost use Rattle.cr_match.specs.Answer.{IsProblem};
-ghost use Rattle.cr_match.specs.Board.{AreAlike, AreSmall, worth, price_of};
-ghost use Rattle.cr_match.specs.Draft.{Holds, IsDraft, IsFree, Turns};
+ghost use Rattle.std.specs.Prelude.{length, slice_index};
+ghost use Rattle.cr_match.specs.Board.{AreSmall, worth, price_of};
+ghost use Rattle.cr_match.specs.Draft.{Holds, IsDraft, IsFree};
 ghost use Rattle.cr_match.specs.Search.{AreMoves, IsRoomy, IsSearched};
-ghost use Rattle.cr_match.specs.Settle.{Adds, Brings, Closes, IsBoardOf, IsSettling, SameBefore, is_held, nth, slots};
-ghost use Rattle.cr_match.specs.Slack.{has_paper};
+ghost use Rattle.cr_match.specs.Settle.{Brings, IsBoardFor, IsSettling};
 ghost use Rattle.cr_match.specs.Rows.{Has};
 ghost use Rattle.cr_match.specs.declared.draft.Draft.{Draft};
-ghost use Rattle.cr_match.specs.declared.trail.Moves.{Moves};
+ghost use Rattle.cr_match.specs.declared.moves.Moves.{Moves};
 
 use crate::board::{Board, Levels};
-use crate::draft::{Draft, change, holds, turn};
-use crate::problem::Problem;
-use crate::tight::{is_tight, tell};
-use crate::trail::{Moves, Trail, explore_from, forget};
+use crate::draft::{Draft, add, holds, turn};
+use crate::moves::tell;
+use crate::problem::Pair;
+use crate::tight::is_tight;
+use crate::trail::{Trail, explore_from, forget};
 
-/// What settling pairs keeps: the search, the paper that it is for, and how many members each paper has among the pairs
-/// that are settled.
+/// A search that is kept from pair to pair.
 #[derive(Drop)]
 pub struct Order {
+    /// The search.
     pub trail: Trail,
+    /// The paper that it is for.
     pub searched: usize,
-    pub kept: Vec<u32>,
 }
 
-/// The pair may change no longer.
-fn close(draft: &mut Draft, p: usize, m: usize)
-    requires { AreMoves draft.old.moves × (p < draft.old.moves.papers) × (m < draft.old.moves.members) }
-    ensures { Closes p m draft.old draft.new }
+/// Brings in a pair that the plan lacks, if later pairs can make room for it at no cost.
+fn bring(draft: &mut Draft, board: &Board, trail: &mut Trail, p: usize, m: usize)
+    requires draft { IsDraft board.now draft.old.choice draft.old.moves }
+    requires trail { IsSearched board.now draft.old.moves p trail.old }
+    requires inside { (p < board.now.papers) × (m < board.now.members) }
+    requires closed { IsFree board.now draft.old.moves p m → ⊥ }
+    requires lacks { Holds board.now draft.old.choice p m → ⊥ }
+    ensures draft { IsDraft board.now draft.new.choice draft.new.moves }
+    ensures trail { IsSearched board.now draft.new.moves p trail.new }
+    ensures brings { Brings board.now p m draft.old.choice draft.old.moves draft.new.choice draft.new.moves
+        ⊎ ((◌≡◌ {A = Draft} draft.new draft.old) × Has trail.new.path.members.items m) }
 {
-    tell(&mut draft.moves, p, m, false, false);
-}
-
-/// The paper has the member too.
-fn add(draft: &mut Draft, board: &Board, p: usize, m: usize)
-    requires draft { IsDraft board.now.want board.now.load draft.old }
-    requires inside { (p < draft.old.moves.papers) × (m < draft.old.moves.members) }
-    requires closed { IsFree draft.old p m → ⊥ }
-    requires lacks { Holds draft.old p m → ⊥ }
-    requires less { slice_index draft.old.given.items p < board.now.want }
-    ensures draft { IsDraft board.now.want board.now.load draft.new }
-    ensures adds { Adds p m draft.old draft.new }
-{
-    change(draft, board, p, m, true);
-}
-
-/// Brings in a pair that the plan lacks, where the pairs behind it can make room at no cost.
-fn bring(draft: &mut Draft, board: &Board, trail: &mut Trail, p: usize, m: usize) -> bool
-    requires draft { IsDraft board.now.want board.now.load draft.old }
-    requires trail { IsSearched draft.old.moves p trail.old }
-    requires inside { (p < draft.old.moves.papers) × (m < draft.old.moves.members) }
-    requires closed { IsFree draft.old p m → ⊥ }
-    requires lacks { Holds draft.old p m → ⊥ }
-    requires full { slice_index draft.old.given.items p ≡ board.now.want }
-    ensures draft { IsDraft board.now.want board.now.load draft.new }
-    ensures trail { IsSearched draft.new.moves p trail.new }
-    ensures brings { result ≡ true → Brings board.now.load p m draft.old draft.new }
-    ensures same { result ≡ false → ◌≡◌ {A = Draft} draft.new draft.old }
-    ensures blocked { result ≡ false → Has trail.new.members.items m }
-{
-    let Some(last) = explore_from(&draft.moves, trail, p, m) else {
-        return false;
+    let Some(last) = explore_from(board, &draft.moves, trail, p, m) else {
+        return;
     };
-    turn(draft, board, trail, p, last);
+    turn(draft, board, &trail.path, p, last);
     add(draft, board, p, m);
-    forget(trail);
-    true
+    forget(board, trail);
 }
 
-/// Forgets what a search for another paper has reached.
-fn attend(order: &mut Order, p: usize)
-    ensures searched { (v : Moves) → IsSearched v order.old.searched order.old.trail → IsSearched v p order.new.trail }
+/// Forgets what is reached if the search is for another paper.
+fn attend(board: &Board, order: &mut Order, p: usize)
+    requires { IsRoomy board.now order.old.trail }
+    ensures searched { (v : Moves) → IsSearched board.now v order.old.searched order.old.trail
+        → IsSearched board.now v p order.new.trail }
     ensures paper { order.new.searched ≡ p }
-    ensures kept { order.new.kept.items ≡ order.old.kept.items }
 {
     if order.searched == p {
         return;
     }
-    forget(&mut order.trail);
+    forget(board, &mut order.trail);
     order.searched = p;
 }
 
-/// Settles pair i; whether it is in.
+/// Settles pair i.
 fn settle(
-    problem: &Problem,
+    pairs: &[Pair],
     board: &Board,
     levels: &Levels,
     draft: &mut Draft,
     order: &mut Order,
     i: usize,
-) -> bool
-    requires problem { IsProblem problem.now × IsBoardOf problem.now board.now × AreSmall board.now levels.now }
-    requires place { i < length problem.now.pairs.items }
-    requires settling { IsSettling problem.now.pairs.items board.now levels.now draft.old i i }
-    requires trail { IsSearched draft.old.moves order.old.searched order.old.trail }
-    requires kept { (length order.old.kept.items ≡ board.now.papers) × ((q : ℕ) → q < board.now.papers
-        → slice_index order.old.kept.items q ≡ count_by (has_paper q) (take i (slots draft.old problem.now.pairs.items))) }
-    ensures settling { IsSettling problem.now.pairs.items board.now levels.now draft.new (i + 1) (i + 1) }
-    ensures same { SameBefore problem.now.pairs.items i draft.old draft.new }
-    ensures held { result ≡ is_held draft.new (nth problem.now.pairs.items i) }
-    ensures trail { IsSearched draft.new.moves order.new.searched order.new.trail }
-    ensures kept { order.new.kept.items ≡ order.old.kept.items }
+)
+    requires board { IsBoardFor pairs.now board.now × AreSmall board.now levels.now }
+    requires place { i < length pairs.now }
+    requires settling { IsSettling pairs.now board.now levels.now draft.old.choice draft.old.moves i i }
+    requires trail { IsSearched board.now draft.old.moves order.old.searched order.old.trail }
+    ensures settling { IsSettling pairs.now board.now levels.now draft.new.choice draft.new.moves (i + 1) (i + 1) }
+    ensures trail { IsSearched board.now draft.new.moves order.new.searched order.new.trail }
 {
-    let pair = problem.pairs[i];
-    let p = pair.paper as usize;
-    let m = pair.member as usize;
-    attend(order, p);
-    if holds(draft, p, m) {
-        close(draft, p, m);
-        return true;
+    let p = pairs[i].paper as usize;
+    let m = pairs[i].member as usize;
+    attend(board, order, p);
+    let held = holds(&draft.choice, board, p, m);
+    tell(&mut draft.moves, board, p, m, false, false);
+    if held {
+        return;
     }
-    close(draft, p, m);
     if !is_tight(board, levels, p, m) {
-        return false;
+        return;
     }
-    if order.kept[p] >= board.want {
-        return false;
-    }
-    bring(draft, board, &mut order.trail, p, m)
-}
-
-/// Counts one more, if there is.
-fn keep(kept: &mut Vec<u32>, p: usize, more: bool)
-    requires inside { p < length kept.old.items }
-    requires small { slice_index kept.old.items p < 2 ^ 31 }
-    ensures long { length kept.new.items ≡ length kept.old.items }
-    ensures more { (q : ℕ) → q < length kept.old.items
-        → slice_index kept.new.items q ≡ slice_index kept.old.items q + (if more && (p == q) then 1 else 0) }
-{
-    if more {
-        kept[p] += 1;
-    }
+    bring(draft, board, &mut order.trail, p, m);
 }
 
 /// Settles each pair in order.
+///
+/// # Cost
+///
+/// A search at most for each paper and each pair that comes in, if the pairs of each paper stand together. Otherwise
+/// one also for each pair that is worth its prices and stays out.
 pub fn settle_all(
-    problem: &Problem,
+    pairs: &[Pair],
     board: &Board,
     levels: &Levels,
     draft: &mut Draft,
     order: &mut Order,
 )
-    requires problem { IsProblem problem.now × IsBoardOf problem.now board.now × AreSmall board.now levels.now }
-    requires settling { IsSettling problem.now.pairs.items board.now levels.now draft.old 0 0 }
-    requires trail { IsRoomy draft.old.moves order.old.trail }
-    requires kept { (length order.old.kept.items ≡ board.now.papers)
-        × ((q : ℕ) → q < board.now.papers → slice_index order.old.kept.items q ≡ 0) }
-    ensures { IsSettling problem.now.pairs.items board.now levels.now draft.new (length problem.now.pairs.items)
-        (length problem.now.pairs.items) }
+    requires board { IsBoardFor pairs.now board.now × AreSmall board.now levels.now }
+    requires settling { IsSettling pairs.now board.now levels.now draft.old.choice draft.old.moves 0 0 }
+    requires trail { IsRoomy board.now order.old.trail }
+    ensures { IsSettling pairs.now board.now levels.now draft.new.choice draft.new.moves (length pairs.now)
+        (length pairs.now) }
 {
-    forget(&mut order.trail);
-    for i in 0..problem.pairs.len() {
-        let more = settle(problem, board, levels, draft, order, i);
-        keep(&mut order.kept, problem.pairs[i].paper as usize, more);
+    forget(board, &mut order.trail);
+    for i in 0..pairs.len() {
+        settle(pairs, board, levels, draft, order, i);
     }
 }

@@ -1,36 +1,49 @@
-//! What is told of a search.
+//! What is answered after a search.
 
 ghost use Rattle.std.specs.Prelude.{◌≡◌, ℕ, ◌+◌, ◌*◌, ◌^◌, ◌<◌, ◌≤◌, length, IfOk};
 ghost use Rattle.cr_match.specs.Answer.{AreInside};
-ghost use Rattle.cr_match.specs.Copies.{lowered, marks};
-ghost use Rattle.cr_match.specs.Labels.{zeros};
-ghost use Rattle.cr_match.specs.Plan.{kept, total_weight};
-ghost use Rattle.cr_match.specs.Search.{AreMoves};
-ghost use Rattle.cr_match.specs.Settle.{slots};
-ghost use Rattle.cr_match.specs.Tell.{labels};
+ghost use Rattle.cr_match.specs.Plan.{total_weight};
+ghost use Rattle.cr_match.specs.Search.{IsSized};
+ghost use Rattle.cr_match.specs.Settle.{chosen};
+ghost use Rattle.cr_match.specs.Tell.{AreThose, lowered};
 
-use crate::board::LIFT;
-use crate::draft::{Draft, holds};
+use crate::board::{Board, LIFT};
+use crate::draft::{Choice, holds};
 use crate::problem::Pair;
 use crate::rows::marked;
 use std::alloc::{AllocError, Global};
 
-/// The pairs that are held.
-pub fn chosen_pairs(alloc: Global, pairs: &[Pair], draft: &Draft) -> Result<Vec<Pair>, AllocError>
-    requires draft { AreMoves draft.now.moves × (length draft.now.held.items ≡ draft.now.moves.papers * draft.now.moves.wide) }
-    requires inside { AreInside draft.now.moves.papers draft.now.moves.members pairs.now }
-    ensures { IfOk result (λ chosen. chosen.items ≡ kept (marks (slots draft.now pairs.now)) pairs.now) }
+/// Returns the pairs that are held, in their order.
+///
+/// # Errors
+///
+/// If memory runs out.
+pub fn chosen_pairs(
+    alloc: Global,
+    pairs: &[Pair],
+    board: &Board,
+    choice: &Choice,
+) -> Result<Vec<Pair>, AllocError>
+    requires sized { IsSized board.now }
+    requires long { length choice.now.held.items ≡ board.now.papers * board.now.wide }
+    requires inside { AreInside board.now.papers board.now.members pairs.now }
+    ensures { IfOk result (λ pairs'. pairs'.items ≡ chosen board.now choice.now pairs.now) }
 {
     let mut chosen = Vec::new(alloc);
     for i in 0..pairs.len() {
-        if holds(draft, pairs[i].paper as usize, pairs[i].member as usize) {
+        if holds(
+            choice,
+            board,
+            pairs[i].paper as usize,
+            pairs[i].member as usize,
+        ) {
             chosen.push(pairs[i])?;
         }
     }
     Ok(chosen)
 }
 
-/// What pairs weigh together.
+/// Returns the sum of the pairs' weights.
 pub fn weight_of(pairs: &[Pair]) -> i64
     requires few { length pairs.now < 2 ^ 31 }
     ensures { result ≡ total_weight pairs.now }
@@ -42,10 +55,14 @@ pub fn weight_of(pairs: &[Pair]) -> i64
     total
 }
 
-/// The papers that are reached.
+/// Returns the papers that are reached, in order.
+///
+/// # Errors
+///
+/// If memory runs out.
 pub fn reached_papers(alloc: Global, reached: &[u64], papers: usize) -> Result<Vec<u32>, AllocError>
     requires { (papers ≤ 10000) × (papers ≤ 64 * length reached.now) }
-    ensures { IfOk result (λ places. places.items ≡ zeros (labels reached.now papers) 0) }
+    ensures { IfOk result (λ places. AreThose reached.now papers places.items) }
 {
     let mut places = Vec::new(alloc);
     for p in 0..papers {
@@ -56,7 +73,11 @@ pub fn reached_papers(alloc: Global, reached: &[u64], papers: usize) -> Result<V
     Ok(places)
 }
 
-/// Prices of papers, lowered to what pairs weigh.
+/// Returns the prices of papers, no longer lifted.
+///
+/// # Errors
+///
+/// If memory runs out.
 pub fn lower(alloc: Global, prices: &[u32]) -> Result<Vec<i64>, AllocError>
     ensures { IfOk result (λ lower. lower.items ≡ lowered prices.now) }
 {
@@ -67,7 +88,11 @@ pub fn lower(alloc: Global, prices: &[u32]) -> Result<Vec<i64>, AllocError>
     Ok(lower)
 }
 
-/// Prices of members.
+/// Returns the prices of members.
+///
+/// # Errors
+///
+/// If memory runs out.
 pub fn widen(alloc: Global, prices: &[u32]) -> Result<Vec<u64>, AllocError>
     ensures { IfOk result (λ wide. wide.items ≡ prices.now) }
 {

@@ -6,7 +6,7 @@ use std::alloc::Global;
 use std::process::Abort;
 use std::test::Fail;
 
-/// Two papers, five members, and what two of them bid.
+/// Returns a problem of two papers and five members, of which two bid.
 fn bids(alloc: Global, per_paper: u32, bids: [i32; 4], rt: &impl Abort) -> Result<Problem, Fail>
     ensures { IfOk result (λ problem. IsProblem problem) }
 {

@@ -1,16 +1,17 @@
-//! What may change at no cost, by prices.
+//! What may change at no cost: the pairs that are worth exactly their two prices.
 
-ghost use Rattle.std.specs.Prelude.{◌≡◌, ◌≢◌, ℕ, ◌+◌, ◌*◌, ◌^◌, ◌<◌, ◌≤◌, ◌⊎◌, ◌↔◌, IsTrue, true, false, length, slice_index};
+ghost use Rattle.std.specs.Prelude.{◌≡◌, ◌≢◌, ℕ, ◌+◌, ◌*◌, ◌^◌, ◌<◌, ◌≤◌, ◌⊎◌, ◌↔◌, IsTrue, true, false, length};
+ghost use Rattle.std.specs.Prelude.{slice_index};
 ghost use Rattle.cr_match.specs.Search.{Takes, Drops, AreMoves};
-ghost use Rattle.cr_match.specs.Draft.{Holds, SameSides};
-ghost use Rattle.cr_match.specs.Board.{IsBoard, AreAlike, AreSmall, worth, price_of};
-ghost use Rattle.cr_match.specs.Tight.{Kept, Tells, IsTold, AreTold};
+ghost use Rattle.cr_match.specs.Draft.{Holds};
+ghost use Rattle.cr_match.specs.Board.{IsBoard, AreSmall, worth, price_of};
+ghost use Rattle.cr_match.specs.Tight.{Stays, Tells, IsSame, IsTold, AreTold};
 
 use crate::board::{Board, Levels, worth_of};
-use crate::draft::{Draft, holds, tell_drop, tell_take};
-use crate::trail::Moves;
+use crate::draft::{Choice, holds};
+use crate::moves::{Moves, tell};
 
-/// Whether the pair is worth its prices.
+/// Returns whether the pair is worth exactly its two prices.
 pub fn is_tight(board: &Board, levels: &Levels, p: usize, m: usize) -> bool
     requires board { IsBoard board.now }
     requires inside { (p < board.now.papers) × (m < board.now.members) }
@@ -20,58 +21,50 @@ pub fn is_tight(board: &Board, levels: &Levels, p: usize, m: usize) -> bool
     worth_of(board, p, m) == levels.papers[p] + levels.members[m]
 }
 
-/// Says whether the paper may take the member, and whether she may drop it.
-pub fn tell(moves: &mut Moves, p: usize, m: usize, takes: bool, drops: bool)
-    requires { AreMoves moves.old × (p < moves.old.papers) × (m < moves.old.members) }
-    ensures { Tells p m takes drops moves.old moves.new }
+/// Notes whether the pair may change: if it is held, the member may drop the paper, and else the paper may take them.
+fn tighten_pair(moves: &mut Moves, board: &Board, choice: &Choice, p: usize, m: usize, tight: bool)
+    requires moves { AreMoves board.now moves.old }
+    requires long { length choice.now.held.items ≡ board.now.papers * board.now.wide }
+    requires inside { (p < board.now.papers) × (m < board.now.members) }
+    ensures stays { Stays board.now moves.old moves.new }
+    ensures told { IsTold (tight ≡ true) board.now choice.now moves.new p m }
+    ensures others { (q x : ℕ) → q < board.now.papers → x < board.now.members → (q ≢ p) ⊎ (x ≢ m)
+        → IsSame board.now moves.old moves.new q x }
 {
-    tell_take(moves, p, m, takes);
-    tell_drop(moves, m, p, drops);
-}
-
-/// Says of the pair what may change: what is held the member may drop, what isn't the paper may take.
-fn tighten_pair(draft: &mut Draft, p: usize, m: usize, tight: bool)
-    requires draft { AreMoves draft.old.moves × (length draft.old.held.items ≡ draft.old.moves.papers * draft.old.moves.wide) }
-    requires inside { (p < draft.old.moves.papers) × (m < draft.old.moves.members) }
-    ensures kept { Kept draft.old draft.new }
-    ensures told { IsTold tight draft.old draft.new p m }
-    ensures others { (q x : ℕ) → q < draft.old.moves.papers → x < draft.old.moves.members → (q ≢ p) ⊎ (x ≢ m)
-        → (Takes draft.new.moves q x ↔ Takes draft.old.moves q x) × (Drops draft.new.moves x q ↔ Drops draft.old.moves x q) }
-{
-    if holds(draft, p, m) {
-        tell(&mut draft.moves, p, m, false, tight);
+    if holds(choice, board, p, m) {
+        tell(moves, board, p, m, false, tight);
         return;
     }
-    tell(&mut draft.moves, p, m, tight, false);
+    tell(moves, board, p, m, tight, false);
 }
 
-/// Says so of each pair of a paper.
-fn tighten_paper(board: &Board, levels: &Levels, draft: &mut Draft, p: usize)
+/// Notes so of each pair of a paper.
+fn tighten_paper(moves: &mut Moves, board: &Board, levels: &Levels, choice: &Choice, p: usize)
     requires board { IsBoard board.now × AreSmall board.now levels.now }
-    requires alike { AreAlike board.now levels.now draft.old }
-    requires draft { AreMoves draft.old.moves × (length draft.old.held.items ≡ draft.old.moves.papers * draft.old.moves.wide) }
+    requires moves { AreMoves board.now moves.old }
+    requires long { length choice.now.held.items ≡ board.now.papers * board.now.wide }
     requires inside { p < board.now.papers }
-    ensures kept { Kept draft.old draft.new }
-    ensures told { (m : ℕ) → m < board.now.members → AreTold board.now levels.now draft.old draft.new p m }
+    ensures stays { Stays board.now moves.old moves.new }
+    ensures told { (m : ℕ) → m < board.now.members → AreTold board.now levels.now choice.now moves.new p m }
     ensures others { (q x : ℕ) → q < board.now.papers → x < board.now.members → q ≢ p
-        → (Takes draft.new.moves q x ↔ Takes draft.old.moves q x) × (Drops draft.new.moves x q ↔ Drops draft.old.moves x q) }
+        → IsSame board.now moves.old moves.new q x }
 {
     for m in 0..board.members {
         let tight = is_tight(board, levels, p, m);
-        tighten_pair(draft, p, m, tight);
+        tighten_pair(moves, board, choice, p, m, tight);
     }
 }
 
-/// Says so of each pair.
-pub fn tighten(board: &Board, levels: &Levels, draft: &mut Draft)
+/// Notes so of each pair.
+pub fn tighten(moves: &mut Moves, board: &Board, levels: &Levels, choice: &Choice)
     requires board { IsBoard board.now × AreSmall board.now levels.now }
-    requires alike { AreAlike board.now levels.now draft.old }
-    requires draft { AreMoves draft.old.moves × (length draft.old.held.items ≡ draft.old.moves.papers * draft.old.moves.wide) }
-    ensures kept { Kept draft.old draft.new }
+    requires moves { AreMoves board.now moves.old }
+    requires long { length choice.now.held.items ≡ board.now.papers * board.now.wide }
+    ensures stays { Stays board.now moves.old moves.new }
     ensures told { (p m : ℕ) → p < board.now.papers → m < board.now.members
-        → AreTold board.now levels.now draft.old draft.new p m }
+        → AreTold board.now levels.now choice.now moves.new p m }
 {
     for p in 0..board.papers {
-        tighten_paper(board, levels, draft, p);
+        tighten_paper(moves, board, levels, choice, p);
     }
 }

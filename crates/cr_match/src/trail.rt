@@ -1,170 +1,190 @@
-//! A search along what may change.
+//! A search in breadth along what may change: from a member, the root, to a paper, the target.
 
-ghost use Rattle.std.specs.Prelude.{◌≡◌, ◌≢◌, ℕ, ◌+◌, ◌*◌, ◌/◌, ◌%◌, ◌^◌, ◌<◌, ◌≤◌, ◌↔◌, IsTrue, IfSome, IfNone, length, slice_index, slice_set};
+ghost use Rattle.std.specs.Prelude.{◌≡◌, ◌≢◌, ℕ, ◌+◌, ◌*◌, ◌/◌, ◌%◌, ◌^◌, ◌<◌, ◌≤◌, ◌↔◌, IsTrue, IfSome, IfNone};
+ghost use Rattle.std.specs.Prelude.{length, slice_index, slice_set};
 ghost use Rattle.cr_match.specs.Rows.{Has, RowHas, Covers, gone};
-ghost use Rattle.cr_match.specs.Search.{Takes, Drops, step_of, AreMoves, IsRoomy, AreSteps, NoneDrops, IsSpread};
-ghost use Rattle.cr_match.specs.Search.{Goes, GoesOn, IsReached, IsExpanded, IsSearched, Reaches, LooksAgain};
+ghost use Rattle.cr_match.specs.Search.{Takes, Drops, step_of, AreMoves, IsLong, IsRoomy, AreSteps, NoneDrops};
+ghost use Rattle.cr_match.specs.Search.{IsSpread};
+ghost use Rattle.cr_match.specs.Search.{Goes, GoesOn, IsReached, IsExpanded, IsDone, IsSearched, Reaches};
+ghost use Rattle.cr_match.specs.declared.moves.Moves.{Moves};
 
+use crate::board::Board;
+use crate::moves::Moves;
 use crate::rows::{clear, has, mark, marked, next};
 
-/// What may change: by paper, and one more, the members whom it may take, `wide` words a row; by member, and one more,
-/// the papers that she may drop, `tall` words a row.
-#[derive(Drop)]
-pub struct Moves {
-    pub papers: usize,
-    pub members: usize,
-    pub wide: usize,
-    pub takes: Vec<u64>,
-    pub tall: usize,
-    pub drops: Vec<u64>,
-}
-
-/// A member, the paper that takes her, and the step whose member drops it.
+/// How a member is reached.
 #[derive(Clone, Copy)]
 pub struct Step {
+    /// The member.
     pub member: usize,
+    /// The paper that takes them.
     pub paper: usize,
+    /// The earlier step whose member drops that paper; a root's own.
     pub from: usize,
 }
 
-/// The papers and the members that are reached, and the steps: the next to look at, and the last root.
+/// The members that are reached.
 #[derive(Drop)]
-pub struct Trail {
-    pub papers: Vec<u64>,
+pub struct Path {
+    /// The set of them.
     pub members: Vec<u64>,
+    /// How each was reached, in order.
     pub steps: Vec<Step>,
+    /// How many steps there are.
     pub count: usize,
-    pub next: usize,
+    /// The last step that is a root.
     pub root: usize,
 }
 
-/// Step i.
-pub fn step_at(trail: &Trail, i: usize) -> Step
-    requires { i < length trail.now.steps.items }
-    ensures { result ≡ step_of trail.now i }
-{
-    trail.steps[i]
+/// A search.
+#[derive(Drop)]
+pub struct Trail {
+    /// The set of papers that are reached.
+    pub papers: Vec<u64>,
+    /// The members that are reached.
+    pub path: Path,
+    /// The step to look at next.
+    pub next: usize,
 }
 
-/// Whether the member is reached.
-fn is_reached(trail: &Trail, member: usize) -> bool
-    requires { member < 64 * length trail.now.members.items }
-    ensures { IsTrue result ↔ Has trail.now.members.items member }
+/// Returns step i.
+pub fn step_at(path: &Path, i: usize) -> Step
+    requires { i < length path.now.steps.items }
+    ensures { result ≡ step_of path.now i }
 {
-    marked(&trail.members, member)
+    path.steps[i]
 }
 
-/// The next member whom the paper may take and who isn't reached.
-fn next_taken(moves: &Moves, trail: &Trail, paper: usize, from: usize) -> Option<usize>
-    requires moves { AreMoves moves.now × IsRoomy moves.now trail.now }
-    requires paper { paper ≤ moves.now.papers }
-    ensures some { IfSome result (λ m. (from ≤ m) × (m < moves.now.members) × Takes moves.now paper m
-        × (Has trail.now.members.items m → ⊥)
-        × ((j : ℕ) → from ≤ j → j < m → Takes moves.now paper j → Has trail.now.members.items j)) }
-    ensures none { IfNone result
-        ((j : ℕ) → from ≤ j → j < moves.now.members → Takes moves.now paper j → Has trail.now.members.items j) }
+/// Returns whether the member is reached.
+fn is_reached(path: &Path, member: usize) -> bool
+    requires { member < 64 * length path.now.members.items }
+    ensures { IsTrue result ↔ Has path.now.members.items member }
 {
-    next(&moves.takes, moves.wide, paper, &trail.members, from)
+    marked(&path.members, member)
 }
 
-/// The next paper that the member may drop and that isn't reached.
-fn next_dropped(moves: &Moves, trail: &Trail, member: usize, from: usize) -> Option<usize>
-    requires moves { AreMoves moves.now × IsRoomy moves.now trail.now }
-    requires member { member ≤ moves.now.members }
-    ensures some { IfSome result (λ q. (from ≤ q) × (q < moves.now.papers + 1) × Drops moves.now member q
-        × (Has trail.now.papers.items q → ⊥)
-        × ((j : ℕ) → from ≤ j → j < q → Drops moves.now member j → Has trail.now.papers.items j)) }
-    ensures none { IfNone result
-        ((j : ℕ) → from ≤ j → j < moves.now.papers + 1 → Drops moves.now member j → Has trail.now.papers.items j) }
+/// Returns the first member from `from` on that the paper may take and that isn't reached, or `None` if there is none.
+fn next_taken(board: &Board, moves: &Moves, path: &Path, paper: usize, from: usize) -> Option<usize>
+    requires moves { AreMoves board.now moves.now × IsLong board.now path.now }
+    requires paper { paper ≤ board.now.papers }
+    ensures some { IfSome result (λ m. (from ≤ m) × (m < board.now.members) × Takes board.now moves.now paper m
+        × (Has path.now.members.items m → ⊥)
+        × ((j : ℕ) → from ≤ j → j < m → Takes board.now moves.now paper j → Has path.now.members.items j)) }
+    ensures none { IfNone result ((j : ℕ) → from ≤ j → j < board.now.members → Takes board.now moves.now paper j
+        → Has path.now.members.items j) }
 {
-    next(&moves.drops, moves.tall, member, &trail.papers, from)
+    next(&moves.takes, board.wide, paper, &path.members, from)
 }
 
-/// One more step: the paper takes the member, who is reached now.
-fn reach(trail: &mut Trail, member: usize, paper: usize, from: usize)
-    requires room { (trail.old.count < length trail.old.steps.items) × (member < 64 * length trail.old.members.items) }
-    ensures reaches { Reaches member paper from trail.old trail.new }
-    ensures root { trail.new.root ≡ trail.old.root }
+/// Returns the first paper from `from` on that the member may drop and that isn't reached, or `None` if there is none.
+fn next_dropped(
+    board: &Board,
+    moves: &Moves,
+    papers: &[u64],
+    member: usize,
+    from: usize,
+) -> Option<usize>
+    requires moves { AreMoves board.now moves.now × (length papers.now ≡ board.now.tall) }
+    requires member { member ≤ board.now.members }
+    ensures some { IfSome result (λ q. (from ≤ q) × (q < board.now.papers + 1) × Drops board.now moves.now member q
+        × (Has papers.now q → ⊥)
+        × ((j : ℕ) → from ≤ j → j < q → Drops board.now moves.now member j → Has papers.now j)) }
+    ensures none { IfNone result ((j : ℕ) → from ≤ j → j < board.now.papers + 1 → Drops board.now moves.now member j
+        → Has papers.now j) }
 {
-    mark(&mut trail.members, member);
-    trail.steps[trail.count] = Step {
+    next(&moves.drops, board.tall, member, papers, from)
+}
+
+/// Reaches the member by one more step.
+fn reach(path: &mut Path, member: usize, paper: usize, from: usize)
+    requires room { (path.old.count < length path.old.steps.items) × (member < 64 * length path.old.members.items) }
+    ensures reaches { Reaches member paper from path.old path.new }
+    ensures root { path.new.root ≡ path.old.root }
+{
+    mark(&mut path.members, member);
+    path.steps[path.count] = Step {
         member,
         paper,
         from,
     };
-    trail.count += 1;
+    path.count += 1;
 }
 
-/// Reaches whom the paper may take, which the member of the step `from` may drop; the step of one who may drop the
-/// target, if there is one.
+/// Reaches all members that the paper may take, which the member of the step `from` may drop. Stops at one who may drop
+/// the target, and returns that step.
 fn spread(
+    board: &Board,
     moves: &Moves,
-    trail: &mut Trail,
+    path: &mut Path,
     target: usize,
     paper: usize,
     from: usize,
 ) -> Option<usize>
-    requires moves { AreMoves moves.now × IsRoomy moves.now trail.old }
-    requires places { (target < moves.now.papers + 1) × (paper < moves.now.papers + 1) × (from < trail.old.count)
-        × (trail.old.root ≤ from) }
-    requires leads { Drops moves.now (step_of trail.old from).member paper }
-    requires steps { AreSteps moves.now trail.old × NoneDrops moves.now target trail.old }
-    ensures roomy { IsRoomy moves.now trail.new }
-    ensures steps { AreSteps moves.now trail.new }
-    ensures goes { Goes trail.old trail.new }
+    requires moves { AreMoves board.now moves.now × IsLong board.now path.old }
+    requires places { (target ≤ board.now.papers) × (paper ≤ board.now.papers) × (from < path.old.count)
+        × (path.old.root ≤ from) }
+    requires leads { Drops board.now moves.now (step_of path.old from).member paper }
+    requires steps { AreSteps board.now moves.now path.old × NoneDrops board.now moves.now target path.old }
+    ensures long { IsLong board.now path.new }
+    ensures steps { AreSteps board.now moves.now path.new }
+    ensures goes { Goes path.old path.new × (path.new.root ≡ path.old.root) }
     ensures some { IfSome result
-        (λ i. (i < trail.new.count) × Drops moves.now (step_of trail.new i).member target) }
-    ensures none { IfNone result (NoneDrops moves.now target trail.new × IsSpread moves.now trail.new paper) }
+        (λ i. (i < path.new.count) × Drops board.now moves.now (step_of path.new i).member target) }
+    ensures none { IfNone result (NoneDrops board.now moves.now target path.new
+        × IsSpread board.now moves.now path.new paper) }
 {
     let mut at = 0;
     'members: loop {
-        let Some(m) = next_taken(moves, trail, paper, at) else {
+        let Some(m) = next_taken(board, moves, path, paper, at) else {
             return None;
         };
-        reach(trail, m, paper, from);
-        if has(&moves.drops, moves.tall, m, target) {
-            return Some(trail.count - 1);
+        reach(path, m, paper, from);
+        if has(&moves.drops, board.tall, m, target) {
+            return Some(path.count - 1);
         }
         at = m + 1;
     }
 }
 
-/// Reaches the paper.
-fn reach_paper(trail: &mut Trail, paper: usize)
-    requires { paper < 64 * length trail.old.papers.items }
-    ensures steps { trail.new.steps.items ≡ trail.old.steps.items }
-    ensures count { trail.new.count ≡ trail.old.count }
-    ensures next { trail.new.next ≡ trail.old.next }
-    ensures root { trail.new.root ≡ trail.old.root }
-    ensures members { trail.new.members.items ≡ trail.old.members.items }
-    ensures long { length trail.new.papers.items ≡ length trail.old.papers.items }
-    ensures same { Has trail.new.papers.items paper }
-    ensures others { (j : ℕ) → j ≢ paper → Has trail.new.papers.items j ↔ Has trail.old.papers.items j }
+/// Puts the paper among those that are reached.
+fn reach_paper(papers: &mut Vec<u64>, paper: usize)
+    requires { paper < 64 * length papers.old.items }
+    ensures long { length papers.new.items ≡ length papers.old.items }
+    ensures same { Has papers.new.items paper }
+    ensures others { (j : ℕ) → j ≢ paper → Has papers.new.items j ↔ Has papers.old.items j }
 {
-    mark(&mut trail.papers, paper);
+    mark(papers, paper);
 }
 
-/// Reaches whom the papers may take that the member of the step may drop; the step of one who may drop the target, if
-/// there is one.
-fn expand(moves: &Moves, trail: &mut Trail, target: usize, from: usize) -> Option<usize>
-    requires moves { AreMoves moves.now × IsRoomy moves.now trail.old }
-    requires places { (target < moves.now.papers + 1) × (from < trail.old.count) × (trail.old.root ≤ from) }
-    requires steps { AreSteps moves.now trail.old × IsReached moves.now target trail.old }
-    ensures roomy { IsRoomy moves.now trail.new }
-    ensures steps { AreSteps moves.now trail.new }
+/// Reaches all members that the papers may take that the member of the step may drop. Stops at one who may drop the
+/// target, and returns that step.
+fn expand(
+    board: &Board,
+    moves: &Moves,
+    trail: &mut Trail,
+    target: usize,
+    from: usize,
+) -> Option<usize>
+    requires moves { AreMoves board.now moves.now × IsRoomy board.now trail.old }
+    requires places { (target ≤ board.now.papers) × (from < trail.old.path.count) × (trail.old.path.root ≤ from) }
+    requires steps { AreSteps board.now moves.now trail.old.path
+        × IsReached board.now moves.now target trail.old.papers.items trail.old.path }
+    ensures roomy { IsRoomy board.now trail.new }
+    ensures steps { AreSteps board.now moves.now trail.new.path }
     ensures goes { GoesOn trail.old trail.new × (trail.new.next ≡ trail.old.next) }
     ensures some { IfSome result
-        (λ i. (i < trail.new.count) × Drops moves.now (step_of trail.new i).member target) }
-    ensures none { IfNone result (IsReached moves.now target trail.new × IsExpanded moves.now trail.new from) }
+        (λ i. (i < trail.new.path.count) × Drops board.now moves.now (step_of trail.new.path i).member target) }
+    ensures none { IfNone result (IsReached board.now moves.now target trail.new.papers.items trail.new.path
+        × IsExpanded board.now moves.now trail.new.papers.items trail.new.path from) }
 {
-    let member = trail.steps[from].member;
+    let member = step_at(&trail.path, from).member;
     let mut at = 0;
     'papers: loop {
-        let Some(paper) = next_dropped(moves, trail, member, at) else {
+        let Some(paper) = next_dropped(board, moves, &trail.papers, member, at) else {
             return None;
         };
-        reach_paper(trail, paper);
-        let found = spread(moves, trail, target, paper, from);
+        reach_paper(&mut trail.papers, paper);
+        let found = spread(board, moves, &mut trail.path, target, paper, from);
         if found.is_some() {
             return found;
         }
@@ -172,24 +192,28 @@ fn expand(moves: &Moves, trail: &mut Trail, target: usize, from: usize) -> Optio
     }
 }
 
-/// Reaches all that can be reached, or one who may drop the target, whose step is told.
-pub fn explore(moves: &Moves, trail: &mut Trail, target: usize) -> Option<usize>
-    requires moves { AreMoves moves.now × IsRoomy moves.now trail.old }
-    requires places { (target < moves.now.papers + 1) × (trail.old.next ≤ trail.old.count)
-        × (trail.old.root ≤ trail.old.next) }
-    requires steps { AreSteps moves.now trail.old × IsReached moves.now target trail.old }
-    requires done { (i : ℕ) → i < trail.old.next → IsExpanded moves.now trail.old i }
-    ensures roomy { IsRoomy moves.now trail.new }
-    ensures steps { AreSteps moves.now trail.new }
+/// Reaches all that can be reached. Stops at a member who may drop the target, and returns that step.
+///
+/// # Cost
+///
+/// At most one look at each paper and each member that isn't reached, and at what each may change, 64 at a time.
+pub fn explore(board: &Board, moves: &Moves, trail: &mut Trail, target: usize) -> Option<usize>
+    requires moves { AreMoves board.now moves.now × IsRoomy board.now trail.old }
+    requires places { (target ≤ board.now.papers) × (trail.old.next ≤ trail.old.path.count)
+        × (trail.old.path.root ≤ trail.old.next) }
+    requires steps { AreSteps board.now moves.now trail.old.path
+        × IsReached board.now moves.now target trail.old.papers.items trail.old.path }
+    requires done { (i : ℕ) → i < trail.old.next
+        → IsExpanded board.now moves.now trail.old.papers.items trail.old.path i }
+    ensures roomy { IsRoomy board.now trail.new }
+    ensures steps { AreSteps board.now moves.now trail.new.path }
     ensures goes { GoesOn trail.old trail.new }
     ensures some { IfSome result
-        (λ i. (i < trail.new.count) × Drops moves.now (step_of trail.new i).member target) }
-    ensures none { IfNone result (IsReached moves.now target trail.new × (trail.new.next ≡ trail.new.count)
-        × ((i : ℕ) → i < trail.new.count → IsExpanded moves.now trail.new i)) }
+        (λ i. (i < trail.new.path.count) × Drops board.now moves.now (step_of trail.new.path i).member target) }
+    ensures none { IfNone result (IsDone board.now moves.now target trail.new) }
 {
-    'steps: while trail.next < trail.count {
-        let from = trail.next;
-        let found = expand(moves, trail, target, from);
+    'steps: while trail.next < trail.path.count {
+        let found = expand(board, moves, trail, target, trail.next);
         if found.is_some() {
             return found;
         }
@@ -198,57 +222,73 @@ pub fn explore(moves: &Moves, trail: &mut Trail, target: usize) -> Option<usize>
     None
 }
 
-/// Takes all away: nothing is reached.
-pub fn forget(trail: &mut Trail)
-    ensures sides { (length trail.new.papers.items ≡ length trail.old.papers.items)
-        × (length trail.new.members.items ≡ length trail.old.members.items)
-        × (trail.new.steps.items ≡ trail.old.steps.items) }
-    ensures none { (trail.new.count ≡ 0) × (trail.new.next ≡ 0) × (trail.new.root ≡ 0) }
+/// Forgets the papers, so that they are reached anew.
+pub fn forget_papers(papers: &mut Vec<u64>)
+    ensures long { length papers.new.items ≡ length papers.old.items }
+    ensures zero { (k : ℕ) → slice_index papers.new.items k ≡ 0 }
+{
+    clear(papers);
+}
+
+/// Empties the search.
+fn wipe(trail: &mut Trail)
+    ensures long { (length trail.new.papers.items ≡ length trail.old.papers.items)
+        × (length trail.new.path.members.items ≡ length trail.old.path.members.items)
+        × (length trail.new.path.steps.items ≡ length trail.old.path.steps.items) }
+    ensures none { (trail.new.path.count ≡ 0) × (trail.new.next ≡ 0) }
     ensures papers { (k : ℕ) → slice_index trail.new.papers.items k ≡ 0 }
-    ensures members { (k : ℕ) → slice_index trail.new.members.items k ≡ 0 }
+    ensures members { (k : ℕ) → slice_index trail.new.path.members.items k ≡ 0 }
 {
     clear(&mut trail.papers);
-    clear(&mut trail.members);
-    trail.count = 0;
+    clear(&mut trail.path.members);
+    trail.path.count = 0;
+    trail.path.root = 0;
     trail.next = 0;
-    trail.root = 0;
 }
 
-/// Begins at one more member: her step comes from itself, and the search goes on behind it.
-pub fn root(trail: &mut Trail, member: usize)
-    requires room { (trail.old.count < length trail.old.steps.items) × (member < 64 * length trail.old.members.items) }
-    ensures reaches { Reaches member 0 trail.old.count trail.old trail.new }
-    ensures root { trail.new.root ≡ trail.old.count }
+/// Forgets all that is reached. So a search for any target is done.
+pub fn forget(board: &Board, trail: &mut Trail)
+    requires { IsRoomy board.now trail.old }
+    ensures searched { (v : Moves) (target : ℕ) → IsSearched board.now v target trail.new }
+    ensures none { trail.new.path.count ≡ 0 }
 {
-    let here = trail.count;
-    reach(trail, member, 0, here);
-    trail.root = here;
+    wipe(trail);
 }
 
-/// Looks for a way from one more member to the target, behind a search that has found none; the step of one who may drop
-/// the target, if there is one.
-pub fn explore_from(moves: &Moves, trail: &mut Trail, target: usize, member: usize) -> Option<usize>
-    requires moves { AreMoves moves.now }
-    requires searched { IsSearched moves.now target trail.old }
-    requires places { (target < moves.now.papers) × (member < moves.now.members) }
-    requires closed { Drops moves.now member target → ⊥ }
-    ensures steps { AreSteps moves.now trail.new × IsRoomy moves.now trail.new }
-    ensures some { IfSome result (λ i. (i < trail.new.count) × (trail.new.root ≤ i)
-        × Drops moves.now (step_of trail.new i).member target
-        × ((step_of trail.new trail.new.root).member ≡ member)) }
-    ensures none { IfNone result (IsSearched moves.now target trail.new × Has trail.new.members.items member) }
+/// Reaches one more member by a step of its own, the root from now on.
+pub fn root(path: &mut Path, member: usize)
+    requires room { (path.old.count < length path.old.steps.items) × (member < 64 * length path.old.members.items) }
+    ensures reaches { Reaches member 0 path.old.count path.old path.new }
+    ensures root { path.new.root ≡ path.old.count }
 {
-    if is_reached(trail, member) {
+    let here = path.count;
+    reach(path, member, 0, here);
+    path.root = here;
+}
+
+/// Looks for a way from one more member to the target, going on with a search that has found none. Returns the step of
+/// the member who may drop the target, or `None` if there is none.
+pub fn explore_from(
+    board: &Board,
+    moves: &Moves,
+    trail: &mut Trail,
+    target: usize,
+    member: usize,
+) -> Option<usize>
+    requires moves { AreMoves board.now moves.now }
+    requires searched { IsSearched board.now moves.now target trail.old }
+    requires places { (target < board.now.papers) × (member < board.now.members) }
+    requires closed { Drops board.now moves.now member target → ⊥ }
+    ensures steps { AreSteps board.now moves.now trail.new.path × IsRoomy board.now trail.new }
+    ensures some { IfSome result (λ i. (i < trail.new.path.count) × (trail.new.path.root ≤ i)
+        × Drops board.now moves.now (step_of trail.new.path i).member target
+        × ((step_of trail.new.path trail.new.path.root).member ≡ member)) }
+    ensures none { IfNone result (IsSearched board.now moves.now target trail.new
+        × Has trail.new.path.members.items member) }
+{
+    if is_reached(&trail.path, member) {
         return None;
     }
-    root(trail, member);
-    explore(moves, trail, target)
-}
-
-/// Looks again at each step. Papers are reached anew, since they may take more members now.
-pub fn again(trail: &mut Trail)
-    ensures { LooksAgain trail.old trail.new }
-{
-    clear(&mut trail.papers);
-    trail.next = 0;
+    root(&mut trail.path, member);
+    explore(board, moves, trail, target)
 }

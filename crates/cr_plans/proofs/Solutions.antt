@@ -19,7 +19,7 @@ use Rattle.cr_match.specs.declared.problem.Problem.{Problem}
 use Rattle.cr_match.specs.declared.problem.Prices.{Prices}
 use Rattle.cr_match.specs.Plan.{IsPlan, kept, of_member, of_paper, total_below, total_weight}
 use Rattle.cr_match.specs.Answer.{AreInside, ComesAfter, HasNoPlan, IsAscending, IsBefore, IsFirst, IsGreatest, IsPlanOf, IsProblem}
-use Rattle.cr_match.proofs.Alike.{bit}
+use Rattle.cr_match.proofs.Sums.{bit}
 use Rattle.cr_match.proofs.Room.{total_below_add, total_below_none, total_below_one, total_below_same}
 use Rattle.cr_plans.specs.Pairing.{no_line}
 use Rattle.cr_plans.proofs.Choices.{Before, IsOne, choice-marks, choices-map, choices-order, filter-map, first_most}

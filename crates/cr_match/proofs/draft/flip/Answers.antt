@@ -1,24 +1,17 @@
-use Rattle.cr_match.proofs.Common.{◌<◌, arith}
-use Rattle.cr_match.proofs.Toggled.{toggled, flipped}
-use Rattle.cr_match.proofs.draft.flip.Goals.{After-toggle}
+use Rattle.cr_match.proofs.Common.{◌≡◌, ◌<◌, ◌⊎◌, arith, inl, inr, refl, true, false, Bool, Takes, Drops}
+use Rattle.cr_match.proofs.Flipped.{flipped, free_back, told_back}
 use Rattle.cr_match.proofs.draft.flip.Goals as goal
 
-paper : (c : After-toggle) → c.args.p < c.args.draft.now.moves.papers
-paper c = omega (arith, c.requires.inside.0, c.if-p-draft.false)
+was : (holds : Bool) (A B : Type 0) → (holds ≡ true → A) → (holds ≡ false → B) → A ⊎ B
+was true A B a b = inl (a refl)
+was false A B a b = inr (b refl)
 
-member : (c : After-toggle) → c.args.m < c.args.draft.now.moves.members
-member c = omega (arith, c.requires.inside.1, c.if-m-draft.false)
-
-pub returns-clause-draft : goal.returns-clause-draft
-returns-clause-draft c =
-    toggled c.args.board.now.want c.args.board.now.load c.args.p c.args.m c.args.holds c.args.draft.now
-    c.toggle.new.draft c.toggle.ensures.toggles c.requires.draft (paper c) (member c)
-    (λ e. c.requires.draft.takes c.args.p c.args.m (paper c) (member c) (c.requires.takes (paper c) (member c) e).0) (λ e. (c.requires.takes (paper c) (member c) e).1)
-    (λ e. c.requires.draft.drops c.args.p c.args.m (paper c) (member c) (c.requires.drops (paper c) (member c) e))
-
-pub returns-clause-flips : goal.returns-clause-flips
-returns-clause-flips c =
-    flipped c.args.board.now.want c.args.board.now.load c.args.p c.args.m c.args.holds c.args.draft.now
-    c.toggle.new.draft c.toggle.ensures.toggles c.requires.draft (paper c) (member c)
-    (λ e. c.requires.draft.takes c.args.p c.args.m (paper c) (member c) (c.requires.takes (paper c) (member c) e).0) (λ e. (c.requires.takes (paper c) (member c) e).1)
-    (λ e. c.requires.draft.drops c.args.p c.args.m (paper c) (member c) (c.requires.drops (paper c) (member c) e)) c.toggle.ensures.back
+pub returns : goal.returns
+returns c =
+    let lp : c.args.p < c.args.board.now.papers = omega (arith, c.requires.inside.0, c.if-p-board.false) in
+    let lm : c.args.m < c.args.board.now.members = omega (arith, c.requires.inside.1, c.if-m-board.false) in
+    flipped c.args.board.now c.args.p c.args.m lp lm c.requires.draft c.hold.ensures
+    (told_back c.args.board.now c.args.p c.args.m lp lm c.tell_limits.ensures c.tell.ensures c.hold.ensures.here)
+    (was c.args.holds (Takes c.args.board.now c.args.draft.now.moves c.args.p c.args.m)
+    (Drops c.args.board.now c.args.draft.now.moves c.args.m c.args.p) (c.requires.takes lp lm) (c.requires.drops lp lm))
+    (free_back c.args.board.now c.args.p c.args.m lp lm c.args.holds c.tell.ensures)

@@ -1,136 +1,93 @@
-use Rattle.cr_match.proofs.Common.{◌≡◌, ◌<◌, ◌≤◌, false, arith, ap, sym, ◌∙◌, subst, step_of, Takes, Drops, Flips}
-use Rattle.cr_match.proofs.Common.{Swaps, Turns, Step}
-use Rattle.cr_match.proofs.Expanded.{steps_le}
-use Rattle.cr_match.proofs.Turned.{begun, begun_leads, more, more_leads}
-use Rattle.cr_match.proofs.draft.turn.Goals.{After-flip, After-step_at-left, After-swap}
+use Rattle.cr_match.proofs.Common.{◌≡◌, ◌<◌, ◌≤◌, false, true, arith, sym, subst}
+use Rattle.cr_match.proofs.Common.{Drops, Step, Takes, Turns, step_of}
+use Rattle.cr_match.specs.Draft.{Flips}
+use Rattle.cr_match.proofs.Reached.{steps_le}
+use Rattle.cr_match.proofs.Turning.{IsTurning, begun, ended, member, passed, still}
+use Rattle.cr_match.proofs.draft.turn.Goals.{After-step_at-first, After-step_at-step}
 use Rattle.cr_match.proofs.draft.turn.Goals as goal
 
-pub step_at-requires : goal.step_at-requires
-step_at-requires c =
-    omega (
-      arith,
-      c.requires.places.1,
-      steps_le c.args.draft.now.moves c.args.trail.now c.requires.trail.0,
-      c.requires.trail.1.steps,
-    )
-
-flips : (c : After-flip) → Flips c.args.target (step_of c.args.trail.now c.args.last).member false c.args.draft.now
-    c.flip.new.draft
-flips c = subst (λ (x : Step). Flips c.args.target x.member false c.args.draft.now c.flip.new.draft) c.step_at.ensures
-    c.flip.ensures.flips
-
 pub steps-init : goal.steps-init
-steps-init c = (
-  c.flip.ensures.draft,
-  begun c.args.board.now.want c.args.board.now.load c.args.trail.now c.args.draft.now c.requires.trail.0
-      c.args.target c.args.last c.flip.new.draft c.requires.draft c.flip.ensures.draft (flips c)
-      c.requires.places.0 c.requires.places.1 c.requires.member c.requires.drops,
-  c.requires.places.2,
-  omega arith,
-  begun_leads c.args.board.now.want c.args.board.now.load c.args.trail.now c.args.draft.now c.requires.trail.0
-      c.args.target c.args.last c.flip.new.draft c.requires.draft c.flip.ensures.draft (flips c)
-      c.requires.places.0 c.requires.places.1 c.requires.member c.requires.drops,
-)
+steps-init c =
+    begun c.requires.path.0 c.args.last c.requires.places.2 c.requires.places.1 c.requires.places.0 c.requires.draft
+    c.requires.drops
 
-pub step_at-taken-requires : goal.step_at-taken-requires
-step_at-taken-requires c =
-    omega (
-      arith,
-      c.steps.invariant.3,
-      c.requires.places.1,
-      steps_le c.args.draft.now.moves c.args.trail.now c.requires.trail.0,
-      c.requires.trail.1.steps,
-    )
+pub step_at-step-requires : goal.step_at-step-requires
+step_at-step-requires c =
+    omega (arith, c.steps.invariant.count, steps_le c.requires.path.0, c.requires.path.1.steps)
 
-behind : (c : After-step_at-left) → c.args.trail.now.root < c.steps.at
-behind c = omega (arith, c.steps.invariant.2, c.steps-test.true)
+behind : (c : After-step_at-step) → c.args.path.now.root < c.steps.at
+behind c = omega (arith, c.steps.invariant.root, c.steps-test.true)
 
-there : (c : After-step_at-left) → c.steps.at < c.args.trail.now.count
-there c = omega (arith, c.steps.invariant.3, c.requires.places.1)
+-- what holds of the step holds of what was read
+of : (c : After-step_at-step) (P : Step → Type 0) → P (step_of c.args.path.now c.steps.at) → P c.step_at-step.result
+of c P = subst P (sym c.step_at-step.ensures)
 
-back : (c : After-step_at-left) → (c.args.trail.now.root ≤ (step_of c.args.trail.now c.steps.at).from)
-    × ((step_of c.args.trail.now c.steps.at).from < c.steps.at)
-back c = c.requires.trail.0.after c.steps.at (behind c) (there c)
+row : (c : After-step_at-step) → c.step_at-step.result.paper ≤ c.args.board.now.papers
+row c = of c (λ x. x.paper ≤ c.args.board.now.papers) (c.requires.path.0.rows c.steps.at c.steps.invariant.count)
 
-left_is : (c : After-step_at-left) → c.step_at-left.result
-    ≡ step_of c.args.trail.now (step_of c.args.trail.now c.steps.at).from
-left_is c = c.step_at-left.ensures
-    ∙ ap (λ (x : Step). step_of c.args.trail.now x.from) c.step_at-taken.ensures
+inside : (c : After-step_at-step) → c.step_at-step.result.member ≤ c.args.board.now.members
+inside c = of c (λ x. x.member ≤ c.args.board.now.members)
+    (c.requires.path.0.inside c.steps.at c.steps.invariant.count)
 
-pub swap-requires-clause-inside : goal.swap-requires-clause-inside
-swap-requires-clause-inside c = (
-  omega (
-    arith,
-    c.requires.trail.0.rows c.steps.at (there c.before),
-    ap (λ (x : Step). x.paper) c.step_at-taken.ensures,
-    c.steps.invariant.1.sides.papers,
-  ),
-  omega (
-    arith,
-    c.requires.trail.0.taken c.steps.at (behind c.before) (there c.before),
-    ap (λ (x : Step). x.member) c.step_at-taken.ensures,
-    c.steps.invariant.1.sides.members,
-  ),
-  omega (
-    arith,
-    c.requires.trail.0.inside (step_of c.args.trail.now c.steps.at).from
-        (omega (arith, (back c.before).1, there c.before)),
-    ap (λ (x : Step). x.member) (left_is c.before),
-    c.steps.invariant.1.sides.members,
-  ),
-)
+pub flip-requires-clause-inside : goal.flip-requires-clause-inside
+flip-requires-clause-inside c = (c.steps.invariant.row, inside c.before)
 
-pub swap-requires-clause-apart : goal.swap-requires-clause-apart
-swap-requires-clause-apart c e =
-    c.requires.trail.0.apart c.steps.at (step_of c.args.trail.now c.steps.at).from (back c.before).1 (there c.before)
-    (sym (ap (λ (x : Step). x.member) c.step_at-taken.ensures) ∙ e ∙ ap (λ (x : Step). x.member) (left_is c.before))
+pub flip-requires-clause-drops : goal.flip-requires-clause-drops
+flip-requires-clause-drops c _ _ _ =
+    of c.before (λ x. Drops c.args.board.now c.steps.draft.moves x.member c.steps.holder)
+    (c.steps.invariant.drops (member c.requires.path.0 c.steps.invariant (behind c.before)))
 
-pub swap-requires-clause-takes : goal.swap-requires-clause-takes
-swap-requires-clause-takes c =
-    subst (λ (x : Step). Takes c.steps.draft.moves x.paper x.member) (sym c.step_at-taken.ensures)
-    (c.steps.invariant.4 c.steps.at (behind c.before) (omega arith)).0
+pub flip-requires-in-steps-clause-inside : goal.flip-requires-in-steps-clause-inside
+flip-requires-in-steps-clause-inside c = (row c.before.before.before, inside c.before.before.before)
 
-pub swap-requires-clause-drops : goal.swap-requires-clause-drops
-swap-requires-clause-drops c =
-    subst (λ (x : Step). Drops c.steps.draft.moves c.step_at-left.result.member x.paper) (sym c.step_at-taken.ensures)
-    (subst (λ (x : Step). Drops c.steps.draft.moves x.member (step_of c.args.trail.now c.steps.at).paper)
-    (sym (left_is c.before)) (c.steps.invariant.4 c.steps.at (behind c.before) (omega arith)).1)
-
-swaps : (c : After-swap) → Swaps (step_of c.args.trail.now c.steps.at).paper (step_of c.args.trail.now c.steps.at).member
-    (step_of c.args.trail.now (step_of c.args.trail.now c.steps.at).from).member c.steps.draft c.swap.new.draft
-swaps c =
-    subst (λ (x : Step). Swaps x.paper x.member
-    (step_of c.args.trail.now (step_of c.args.trail.now c.steps.at).from).member c.steps.draft c.swap.new.draft)
-    c.step_at-taken.ensures
-    (subst (λ (x : Step). Swaps c.step_at-taken.result.paper c.step_at-taken.result.member x.member c.steps.draft
-    c.swap.new.draft) (left_is c.before.before) c.swap.ensures.swaps)
+pub flip-requires-in-steps-clause-takes : goal.flip-requires-in-steps-clause-takes
+flip-requires-in-steps-clause-takes c _ _ _ =
+    of c.before.before.before (λ x. Flips c.args.board.now c.steps.holder x.member false c.steps.draft.choice
+    c.steps.draft.moves c.flip.new.draft.choice c.flip.new.draft.moves
+    → Takes c.args.board.now c.flip.new.draft.moves x.paper x.member)
+    (still c.requires.path.0 c.steps.invariant (behind c.before.before.before)) c.flip.ensures
 
 pub steps-preserved : goal.steps-preserved
 steps-preserved c =
-    let e : c.step_at-taken.result.from ≡ (step_of c.args.trail.now c.steps.at).from =
-    ap (λ (x : Step). x.from) c.step_at-taken.ensures in
-    let from = back c.before.before in (
-      c.swap.ensures.draft,
-      subst (λ i. Turns c.args.board.now.load c.args.target (step_of c.args.trail.now i).member c.args.draft.now
-          c.swap.new.draft) (sym e)
-          (more c.args.board.now.want c.args.board.now.load c.args.trail.now c.args.draft.now c.requires.trail.0
-          c.args.target c.steps.at c.steps.draft c.swap.new.draft c.steps.invariant.0 c.swap.ensures.draft
-          c.steps.invariant.1 c.steps.invariant.4 (behind c.before.before) (there c.before.before) (swaps c)),
-      omega (arith, e, from.0),
-      omega (arith, e, from.1, c.steps.invariant.3),
-      λ j lj le.
-          more_leads c.args.board.now.want c.args.board.now.load c.args.trail.now c.args.draft.now c.requires.trail.0
-          c.args.target c.steps.at c.steps.draft c.swap.new.draft c.steps.invariant.0 c.swap.ensures.draft
-          c.steps.invariant.1 c.steps.invariant.4 (behind c.before.before) (there c.before.before) (swaps c)
-          j lj (omega (arith, e, le)),
-    )
+    of c.before.before.before.before (λ x. Flips c.args.board.now c.steps.holder x.member false c.steps.draft.choice
+    c.steps.draft.moves c.flip.new.draft.choice c.flip.new.draft.moves
+    → Flips c.args.board.now x.paper x.member true c.flip.new.draft.choice c.flip.new.draft.moves
+    c.flip-in-steps.new.draft.choice c.flip-in-steps.new.draft.moves
+    → IsTurning c.args.board.now c.args.path.now c.args.target c.args.draft.now.choice c.args.draft.now.moves x.paper
+    x.from c.flip-in-steps.new.draft.choice c.flip-in-steps.new.draft.moves)
+    (passed c.requires.path.0 c.steps.invariant (behind c.before.before.before.before)) c.flip.ensures
+    c.flip-in-steps.ensures
 
 pub steps-smaller : goal.steps-smaller
 steps-smaller c =
-    omega (arith, (back c.before.before).1, ap (λ (x : Step). x.from) c.step_at-taken.ensures)
+    of c.before.before.before.before (λ x. x.from < c.steps.at)
+    (c.requires.path.0.after c.steps.at (behind c.before.before.before.before) c.steps.invariant.count).1
+
+pub step_at-first-requires : goal.step_at-first-requires
+step_at-first-requires c =
+    omega (arith, c.steps.invariant.count, steps_le c.requires.path.0, c.requires.path.1.steps)
+
+of_first : (c : After-step_at-first) (P : Step → Type 0) → P (step_of c.args.path.now c.steps.at)
+    → P c.step_at-first.result
+of_first c P = subst P (sym c.step_at-first.ensures)
+
+pub flip-requires-2-clause-inside : goal.flip-requires-2-clause-inside
+flip-requires-2-clause-inside c = (
+  c.steps.invariant.row,
+  of_first c.before (λ x. x.member ≤ c.args.board.now.members)
+      (c.requires.path.0.inside c.steps.at c.steps.invariant.count),
+)
+
+pub flip-requires-2-clause-drops : goal.flip-requires-2-clause-drops
+flip-requires-2-clause-drops c _ lm _ =
+    of_first c.before (λ x. x.member < c.args.board.now.members
+    → Drops c.args.board.now c.steps.draft.moves x.member c.steps.holder) c.steps.invariant.drops lm
 
 pub returns-clause-turns : goal.returns-clause-turns
 returns-clause-turns c =
-    let e : c.steps.at ≡ c.args.trail.now.root = omega (arith, c.steps-test.false) in
-    subst (λ i. Turns c.args.board.now.load c.args.target (step_of c.args.trail.now i).member c.args.draft.now
-    c.steps.draft) e c.steps.invariant.1
+    let root : c.steps.at ≡ c.args.path.now.root = omega (arith, c.steps-test.false) in
+    subst (λ n. Turns c.args.board.now c.args.target (step_of c.args.path.now n).member c.args.draft.now.choice
+    c.args.draft.now.moves c.flip-2.new.draft.choice c.flip-2.new.draft.moves) root
+    (ended c.requires.path.0 c.steps.invariant c.requires.draft
+    (subst (λ (x : Step). Flips c.args.board.now c.steps.holder x.member false c.steps.draft.choice c.steps.draft.moves
+    c.flip-2.new.draft.choice c.flip-2.new.draft.moves) c.step_at-first.ensures c.flip-2.ensures))

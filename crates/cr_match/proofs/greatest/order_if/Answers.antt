@@ -2,7 +2,4 @@ use Rattle.cr_match.proofs.Finished.{best_of}
 use Rattle.cr_match.proofs.greatest.order_if.Goals as goal
 
 pub returns-then-not-first-clause-best : goal.returns-then-not-first-clause-best
-returns-then-not-first-clause-best c = (
-  best_of c.args.problem.now c.args.work.now c.requires.1,
-  c.requires.1.board,
-)
+returns-then-not-first-clause-best c = best_of c.requires

@@ -1,5 +1,6 @@
-use Rattle.cr_match.proofs.Common.{IsAscending, IsOrdered}
+use Rattle.cr_match.proofs.Common.{IsAscending}
 use Rattle.cr_match.specs.Answer.{IsFirstSolved}
+use Rattle.cr_match.specs.Solve.{IsOrdered}
 use Rattle.cr_match.proofs.Finished.{if_ordered}
 use Rattle.cr_match.proofs.greatest.solve_in.Goals as goal
 

@@ -3,5 +3,5 @@ use Rattle.cr_match.proofs.raise.fill.Given as goal
 
 abbrev pub invariant-loop-place : goal.invariant-loop-place
 invariant-loop-place l =
-    IsFitting l.board l.levels l.draft × IsRoomy l.draft.moves l.trail × (l.levels.nobody ≤ 400040 * l.place)
-    × (placed l.board l.draft ≡ l.place)
+    IsFitting l.board l.levels l.draft.choice l.draft.moves × IsRoomy l.board l.trail
+    × (l.levels.nobody ≤ 400040 * l.place) × (placed l.board l.draft.choice ≡ l.place)

@@ -1,10 +1,10 @@
 use Rattle.cr_match.proofs.Common.{◌≡◌, ◌⊎◌, ◌+◌, ◌≤◌, sym, subst, low, worth}
-use Rattle.cr_match.proofs.Tables.{best_more}
+use Rattle.cr_match.proofs.Distinct.{best_more}
 use Rattle.cr_match.proofs.setup.best_worth.Goals as goal
 
 pub loop-m-preserved : goal.loop-m-preserved
 loop-m-preserved c =
-    best_more low (low + 40) 0 c.worth_of.result c.loop-m.best c.greater-best.result c.args.p c.loop-m.m
+    best_more low (low + 40) c.worth_of.result c.loop-m.best c.greater-best.result c.loop-m.m
     (worth c.args.board.now c.args.p) (sym c.worth_of.ensures)
     (subst (λ n. (n ≡ 0) ⊎ ((low ≤ n) × (n ≤ low + 40))) (sym c.worth_of.ensures)
     (c.requires.board.cells c.args.p c.loop-m.m c.requires.inside c.loop-m-test.true))

@@ -1,5 +1,5 @@
 use Rattle.cr_match.proofs.Common.{◌≡◌, length}
-use Rattle.cr_match.proofs.Tables.{AreWritten}
+use Rattle.cr_match.proofs.Distinct.{AreWritten}
 use Rattle.cr_match.proofs.setup.write_pairs.Given as goal
 
 abbrev pub invariant-loop-i : goal.invariant-loop-i

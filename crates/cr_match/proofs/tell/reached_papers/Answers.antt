@@ -1,19 +1,24 @@
-use Rattle.cr_match.proofs.Common.{◌+◌, ◌-◌, ◌++◌, ℕ, List, ap, ◌∙◌, Vec, Global, zeros, Has, places, lacks_bit}
-use Rattle.cr_match.proofs.Lists.{paper_in, paper_out}
-use Rattle.cr_match.proofs.Steps.{refuted}
+use Rattle.cr_match.proofs.Common.{List, [], ◌+◌, ℕ, ap, sym, ◌∙◌, arith, subst, Vec, Global}
+use Rattle.cr_match.specs.Tell.{AreThose}
+use Rattle.cr_match.proofs.Tells.{place_in, place_out}
+use Rattle.cr_match.proofs.Walks.{refuted}
 use Rattle.cr_match.proofs.tell.reached_papers.Goals.{then-marked+in_ok-push, else-marked}
 use Rattle.cr_match.proofs.tell.reached_papers.Goals as goal
 
+none : (s : List ℕ) → AreThose s 0 []
+none s = record { distinct = tt; all = λ q. ((λ e. absurd (let k = e in cc)), (λ k. absurd (omega (arith, k.0)))) }
+
+pub loop-p-init : goal.loop-p-init
+loop-p-init c = subst (AreThose c.args.reached.now 0) (sym c.new-places.ensures.items) (none c.args.reached.now)
+
 pub loop-p-preserved : goal.loop-p-preserved
-loop-p-preserved c =
-    let rest = zeros (places (lacks_bit c.args.reached.now) (c.loop-p.p + 1) (c.args.papers - (c.loop-p.p + 1))) (c.loop-p.p + 1) in
-    elim c.if-marked.branch [
-      | then-marked+in_ok-push w ↦ ap (λ (x : List ℕ). x ++ rest)
-          (ap (λ (v : Vec ℕ Global). v.items) w.places-is ∙ w.in_ok-push.ensures.items)
-          ∙ paper_in c.args.reached.now c.loop-p.places.items c.loop-p.p c.args.papers c.loop-p-test.true
-          (c.marked.ensures.0 w.if-marked.true) ∙ c.loop-p.invariant
-      | else-marked w ↦ ap (λ (x : List ℕ). x ++ rest) (ap (λ (v : Vec ℕ Global). v.items) w.places-is)
-          ∙ paper_out c.args.reached.now c.loop-p.places.items c.loop-p.p c.args.papers c.loop-p-test.true
-          (refuted c.marked.result (Has c.args.reached.now c.loop-p.p) c.marked.ensures.1 w.if-marked.false)
-          ∙ c.loop-p.invariant
-    ]
+loop-p-preserved c = elim c.if-marked.branch [
+  | then-marked+in_ok-push w ↦ subst (AreThose c.args.reached.now (c.loop-p.p + 1))
+      (sym (ap (λ (v : Vec ℕ Global). v.items) w.places-is ∙ w.in_ok-push.ensures.items))
+      (place_in c.args.reached.now c.loop-p.places.items c.loop-p.p c.loop-p.invariant
+      (c.marked.ensures.0 w.if-marked.true))
+  | else-marked w ↦ subst (AreThose c.args.reached.now (c.loop-p.p + 1))
+      (sym (ap (λ (v : Vec ℕ Global). v.items) w.places-is))
+      (place_out c.args.reached.now c.loop-p.places.items c.loop-p.p c.loop-p.invariant
+      (refuted c.marked.ensures.1 w.if-marked.false))
+]

@@ -1,5 +1,5 @@
-use Rattle.cr_match.proofs.Common.{get_or, arith, refl, ints}
-use Rattle.cr_match.proofs.Tells.{weight_at, zero_pair}
+use Rattle.cr_match.proofs.Common.{arith, ap, ints, total_weight, zero_pair}
+use Rattle.cr_match.proofs.Tells.{drop_at}
 use Rattle.cr_match.proofs.tell.weight_of.Goals as goal
 
 pub loop-pair-preserved : goal.loop-pair-preserved
@@ -7,8 +7,7 @@ loop-pair-preserved c = (
   omega (
     arith,
     ints,
-    weight_at c.args.pairs.now c.loop-pair.pair-index zero_pair
-        (get_or c.args.pairs.now c.loop-pair.pair-index zero_pair) c.loop-pair-test.true refl,
+    ap total_weight (drop_at c.args.pairs.now c.loop-pair.pair-index zero_pair c.loop-pair-test.true),
   ),
   omega (arith, ints),
   omega (arith, ints),

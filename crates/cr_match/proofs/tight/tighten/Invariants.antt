@@ -1,8 +1,8 @@
 use Rattle.cr_match.proofs.Common.{ℕ, ◌<◌, AreTold}
-use Rattle.cr_match.specs.Tight.{Kept}
+use Rattle.cr_match.specs.Tight.{Stays}
 use Rattle.cr_match.proofs.tight.tighten.Given as goal
 
 abbrev pub invariant-loop-p : goal.invariant-loop-p
 invariant-loop-p l =
-    Kept l.initial.draft l.draft
-    × ((q m : ℕ) → q < l.p → m < l.board.members → AreTold l.board l.levels l.initial.draft l.draft q m)
+    Stays l.board l.initial.moves l.moves
+    × ((q m : ℕ) → q < l.p → m < l.board.members → AreTold l.board l.levels l.choice l.moves q m)

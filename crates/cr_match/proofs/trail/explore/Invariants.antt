@@ -3,9 +3,10 @@ use Rattle.cr_match.proofs.trail.explore.Given as goal
 
 abbrev pub invariant-steps : goal.invariant-steps
 invariant-steps l =
-    IsRoomy l.moves l.trail × AreSteps l.moves l.trail × IsReached l.moves l.target l.trail × GoesOn l.initial.trail l.trail
-    × (l.trail.next ≤ l.trail.count) × ((i : ℕ) → i < l.trail.next → IsExpanded l.moves l.trail i)
-    × (l.trail.root ≤ l.trail.next)
+    IsRoomy l.board l.trail × AreSteps l.board l.moves l.trail.path
+    × IsReached l.board l.moves l.target l.trail.papers.items l.trail.path × GoesOn l.initial.trail l.trail
+    × (l.trail.next ≤ l.trail.path.count) × (l.trail.path.root ≤ l.trail.next)
+    × ((i : ℕ) → i < l.trail.next → IsExpanded l.board l.moves l.trail.papers.items l.trail.path i)
 
 abbrev pub decreases-steps : goal.decreases-steps
-decreases-steps l = l.moves.members + 1 - l.trail.next
+decreases-steps l = l.board.members + 1 - l.trail.next

@@ -1,10 +1,11 @@
-use Rattle.cr_match.proofs.Common.{ℕ, ◌-◌, ◌<◌, ◌≤◌, Has, Takes, IsRoomy, AreSteps, NoneDrops, Goes}
+use Rattle.cr_match.proofs.Common.{◌≡◌, ℕ, ◌-◌, ◌<◌, ◌≤◌, Has, Takes, IsLong, AreSteps, NoneDrops, Goes}
 use Rattle.cr_match.proofs.trail.spread.Given as goal
 
 abbrev pub invariant-members : goal.invariant-members
 invariant-members l =
-    IsRoomy l.moves l.trail × AreSteps l.moves l.trail × Goes l.initial.trail l.trail × NoneDrops l.moves l.target l.trail
-    × ((j : ℕ) → j < l.at → Takes l.moves l.paper j → Has l.trail.members.items j) × (l.at ≤ l.moves.members)
+    IsLong l.board l.path × AreSteps l.board l.moves l.path × Goes l.initial.path l.path
+    × (l.path.root ≡ l.initial.path.root) × NoneDrops l.board l.moves l.target l.path
+    × ((j : ℕ) → j < l.at → Takes l.board l.moves l.paper j → Has l.path.members.items j) × (l.at ≤ l.board.members)
 
 abbrev pub decreases-members : goal.decreases-members
-decreases-members l = l.moves.members - l.at
+decreases-members l = l.board.members - l.at
