@@ -26,7 +26,7 @@ impl<T: Drop> From<AllocFailed<T>> for FileError {
 }
 
 impl FileError {
-    // The same of a line's error, which has this number.
+    // Returns the error of the file for an error in the line of this number.
     fn at(error: LineError, number: usize) -> FileError {
         match error {
             LineError::NoForm => FileError::NoForm(number),

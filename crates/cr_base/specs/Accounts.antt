@@ -20,7 +20,7 @@ abbrev pub with_role : List Account → ℕ → Role → List Account
 with_role accounts at role =
     option_map_or (λ a. slice_set accounts at (record a { role = role })) (slice_get accounts at) accounts
 
--- the accounts after one more entry: user number n stands at index n - 1
+-- the accounts after one more entry: that of user n is at index n - 1
 abbrev pub accounts_after : List Account → Entry → List Account
 accounts_after accounts (Registered user name digest) =
     accounts ++ record { name = name; digest = digest; role = role.Account } ∷ []
@@ -34,11 +34,11 @@ accounts_after accounts _ = accounts
 abbrev pub account_at : List Account → ℕ → Option Account
 account_at accounts user = numbered accounts user
 
--- the role of a user, where she has an account
+-- the role of a user; `None` if there is no such account
 abbrev pub role_at : List Account → ℕ → Option Role
 role_at accounts user = option_map (λ a. a.role) (account_at accounts user)
 
--- the role of a user: an account's for nobody, and where nobody has that number
+-- the role of a caller; an account's for an unauthenticated one, and for a number that no user has
 abbrev pub role_in : List Account → Option ℕ → Role
 role_in accounts user = unwrap_or (option_and_then (role_at accounts) user) role.Account
 
@@ -55,7 +55,7 @@ abbrev pub caller_at : List Account → List ℕ → List ℕ → Option ℕ
 caller_at accounts name digest =
     option_and_then (λ user. if has_digest accounts digest user then Some user else None) (number_at accounts name)
 
--- the accounts as everyone sees them, where the first has number n
+-- the accounts as everyone sees them, if the first has number n
 abbrev pub lines_from : ℕ → List Account → List AccountLine
 lines_from n [] = []
 lines_from n (a ∷ accounts) = record { user = n; name = a.name; role = a.role } ∷ lines_from (n + 1) accounts

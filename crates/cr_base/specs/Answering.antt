@@ -1,5 +1,5 @@
--- The one answer to queries: filled with the facts of a view it is `answer` of cr_policy, filled with those of the
--- tables it is `answer_by_role`.
+-- The answer to each query, by what one is given of the conference (Facts) and of its papers (Shown). With the facts of
+-- a view it is `answer` of cr_policy, with those of the tables `answer_by_role`.
 use Rattle.std.specs.Prelude.{ℕ, Bool, true, false, not, ◌≢◌, ◌&&◌, ◌==◌, List, [], length, map, Option}
 use Rattle.std.specs.Prelude.{Some, None, is_some, filter, find, unwrap_or, Result, Ok, Err, if◌then◌else◌}
 use Rattle.std.specs.Option.{option_map, option_and_then}
@@ -40,23 +40,23 @@ use Rattle.cr_base.specs.Calls.{maker_of}
 use Rattle.cr_base.specs.Tables.{Tables}
 use Rattle.cr_base.specs.Words.{is_chair}
 
--- which of a paper's uploads are told: all to its authors, the last alone to others
+-- the uploads of a paper that are told: all to its authors, to others only the last
 abbrev pub uploads_told : Bool → List Upload → List Upload
 uploads_told true uploads = uploads
 uploads_told false uploads = listed (last uploads)
 
--- the last of these, and the one of a version
+-- the upload of this version among these; the last one if no version is named
 abbrev pub upload_of : Option ℕ → List Upload → Option Upload
 upload_of None uploads = last uploads
 upload_of (Some version) uploads = find (λ (u : Upload). u.version == version) uploads
 
--- the content of the paper, where one is told: of its last version, or of the one that is asked for
+-- the content of the paper of this version, or of its last if none is named; `None` if the caller isn't told it
 abbrev pub content_by : Facts → Shown → Option ℕ → Option ℕ → Option (List ℕ)
 content_by facts shown paper version =
     let told = λ (p : ℕ). upload_of version (uploads_told (facts.standing paper).author (shown.uploads p)) in
     option_map (λ (u : Upload). u.content) (option_and_then told paper)
 
--- the rules of asking for it
+-- the rules of asking for the content of the paper, of this version or the last
 abbrev pub content_asked : Facts → Shown → Option ℕ → Option ℕ → List Check
 content_asked facts shown paper version =
     content_checks (facts.standing paper) (at_some facts.accepted paper) (of_there (has_paper facts paper))
@@ -64,14 +64,15 @@ content_asked facts shown paper version =
 
 -- ---- who may ask
 
--- the paper whose page or content is asked for: everyone is served what is published
+-- the paper whose page or content the query asks for: what is published is for everyone
 abbrev pub paper_read : Query → Option ℕ
 paper_read (queries.Page paper) = paper
 paper_read (queries.Content paper) = paper
 paper_read (queries.Version paper version) = paper
 paper_read _ = None
 
--- nobody may not ask: what is asked for wants a login, and isn't the page or the content of a published paper
+-- the query requires authentication: it isn't one that everyone may ask, nor the page or the content of a published
+-- paper
 abbrev pub login_wanted : Facts → Query → Bool
 login_wanted facts query =
     query_wants_login query
@@ -83,7 +84,7 @@ plan_asked facts shown per_paper =
     plan_checks (facts.standing None)
     (is_too_large per_paper (length (planned_papers facts shown per_paper)) (length (planned_members facts)))
 
--- the rules of a query, but for the one that is found as the answer is: that there is no plan
+-- the rules of a query, except `NoPlan`: that there is no plan is found with the answer
 abbrev pub query_checks : Facts → Shown → Query → List Check
 query_checks facts shown queries.Accounts = []
 query_checks facts shown queries.Phase = []
@@ -105,12 +106,13 @@ query_checks facts shown (queries.Response paper) =
 query_checks facts shown (queries.Report report) = report_checks facts report
 query_checks facts shown (queries.Plan per_paper load) = plan_asked facts shown per_paper
 
--- a bid with the name of whose it is, where she has one
+-- a bid with the name of the user who made it; `None` if the user has no account
 abbrev pub bidder_told : List AccountLine → BidTold → Option Bidder
 bidder_told accounts bid =
     option_map (λ (name : List ℕ). record { bid = bid.value; user = name }) (name_in accounts bid.user)
 
--- a reviewer, as one who stands so to the paper is told of her; `written` says under which ordinals a form is
+-- a reviewer, as a caller with this standing at the paper is told of them; `written` says under which ordinals there is
+-- a form
 abbrev pub reviewer_told : Standing → List AccountLine → (ℕ → Bool) → SeatTold → Reviewer
 reviewer_told by accounts written seat = record {
   done = where_told (is_clear_chair by) (Some (written seat.ordinal));
@@ -119,7 +121,7 @@ reviewer_told by accounts written seat = record {
   user = where_told (shows_reviewer by) (option_and_then (name_in accounts) seat.user);
 }
 
--- the page of a paper that is there
+-- the page of a paper that is there, as the caller is told it
 abbrev pub page_by : Facts → Shown → Option ℕ → ℕ → Page
 page_by facts shown caller p =
     page_of (facts.standing (Some p)) (facts.accepted p) p (record {
@@ -140,8 +142,8 @@ page_by facts shown caller p =
 
 -- ---- reviews and comments
 
--- a form under a label, as one who stands so to the paper is told of it: `user` wrote it. Members read all of it;
--- authors neither which version it is nor what is for the committee
+-- a form under a label that this user wrote, as a caller with this standing at the paper is told it; `named` says
+-- whether the user is named. Members read all of it, authors neither its number nor the text to the committee.
 abbrev pub review_told : Standing → List AccountLine → Bool → Option ℕ → ℕ → FormTold → ReviewLine
 review_told by accounts named user label form = record {
   confidence = form.confidence;
@@ -153,13 +155,13 @@ review_told by accounts named user label form = record {
   version = where_told (not by.author) form.version;
 }
 
--- the form of a label that authors who stand so to the paper are told: from the notification on the last, and before it
--- the last that was written before the response
+-- the form of the label of this ordinal that authors with this standing at the paper are told: from the notification on
+-- the last, before it the one to which they respond
 abbrev pub authors_form : Shown → Standing → ℕ → ℕ → Option FormTold
 authors_form shown by p o = if authors_read_reviews by.phase then shown.last_form p o else shown.early_form p o
 
--- the reviews that one who stands so to the paper is told: authors one form of each label; from the discussion on
--- members the forms that are discussed; and else a reviewer her own, without her name
+-- the reviews of the paper that the caller is told: authors one form of each label; members from the discussion on the
+-- forms that are discussed; else reviewers their own, without their names
 abbrev pub reviews_by : Facts → Shown → ℕ → List ReviewLine
 reviews_by facts shown p =
     let by = facts.standing (Some p) in
@@ -170,8 +172,8 @@ reviews_by facts shown p =
     then by_labels (λ (o : ℕ). told (shows_reviewer by) o (shown.forms_discussed p o)) most_labels
     else told false (unwrap_or (facts.own_ordinal p) 0) (facts.own_forms p))
 
--- a comment, as one who stands so to the paper is told of it: by its writer's name, or else
--- by her label, where she has one
+-- a comment, as a caller with this standing at the paper is told it: with the writer's name, or else with the writer's
+-- label, if there is one
 abbrev pub comment_line : Standing → List AccountLine → CommentTold → CommentLine
 comment_line by accounts comment = record {
   label = where_told (not (shows_writer by)) comment.ordinal;
@@ -180,15 +182,17 @@ comment_line by accounts comment = record {
   user = where_told (shows_writer by) (option_and_then (name_in accounts) comment.writer);
 }
 
+-- the comments on the paper, as the caller is told them, in order
 abbrev pub comments_by : Facts → Shown → ℕ → List CommentLine
 comments_by facts shown p = map (comment_line (facts.standing (Some p)) facts.accounts) (shown.comments p)
 
--- what the paper's authors responded
+-- the text that the paper's authors responded; empty if there is none
 abbrev pub response_by : Shown → Option ℕ → List ℕ
 response_by shown paper = unwrap_or (option_and_then shown.response paper) []
 
 -- ---- the accepted papers
 
+-- an accepted paper, as everyone is told it: its authors, its number and its title
 abbrev pub accepted_paper : Facts → Shown → ℕ → AcceptedPaper
 accepted_paper facts shown p = record {
   authors = names_in facts.accounts (shown.authors p);
@@ -196,13 +200,13 @@ accepted_paper facts shown p = record {
   title = unwrap_or (shown.title p) [];
 }
 
--- by number
+-- the accepted papers, by number
 abbrev pub accepted_by : Facts → Shown → List AcceptedPaper
 accepted_by facts shown = map (accepted_paper facts shown) (filter facts.accepted facts.papers)
 
 -- ---- the caller
 
--- what a user is told of herself: nobody is told anything
+-- what a user is told of themselves
 abbrev pub me_by : Facts → ℕ → Me
 me_by facts user = record {
   assigned = filter (λ p. (facts.standing (Some p)).reviewer) facts.papers;
@@ -218,26 +222,27 @@ me_by facts user = record {
 
 -- ---- searches
 
--- a reply, or the rule that stands in its way
+-- the reply, or the broken rule as a reply
 abbrev pub reply_or_rule : Result Reply Rule → Reply
 reply_or_rule (Ok reply) = reply
 reply_or_rule (Err rule) = replies.Refused rule
 
--- the lines that are answered, where it isn't a rule
+-- the reviews that a reply tells; none if it is a refusal
 abbrev pub reviews_answered : Reply → List ReviewLine
 reviews_answered (replies.Reviews lines) = lines
 reviews_answered _ = []
 
+-- the comments that a reply tells; none if it is a refusal
 abbrev pub comments_answered : Reply → List CommentLine
 comments_answered (replies.Comments lines) = lines
 comments_answered _ = []
 
--- a text is answered
+-- the reply tells a response
 abbrev pub tells_response : Reply → Bool
 tells_response (replies.Response text) = true
 tells_response _ = false
 
--- what a caller is told of a paper, as the terms of a search ask
+-- what the caller is told of a paper by those queries which the terms of a search go by
 abbrev pub told_of_paper : Facts → Shown → Option ℕ → ℕ → PaperTold
 told_of_paper facts shown caller p = record {
   page = page_by facts shown caller p;
@@ -262,7 +267,7 @@ abbrev pub search_told : Facts → Shown → Option ℕ → List Step → Bool �
 search_told facts shown caller search true = replies.Count (length (found_by facts shown caller search))
 search_told facts shown caller search false = replies.Found (found_by facts shown caller search)
 
--- what a query is answered where it breaks no rule
+-- the reply to a query that breaks no rule
 abbrev pub told_by : Facts → Shown → Option ℕ → Query → Reply
 told_by facts shown caller queries.Accounts = replies.Accounts facts.accounts
 told_by facts shown caller queries.Phase =
@@ -282,16 +287,16 @@ told_by facts shown caller (queries.Search search only_count) = search_told fact
 told_by facts shown caller (queries.Report report) = replies.Report (report_told facts shown report)
 told_by facts shown caller (queries.Plan per_paper load) = plan_reply (best_plan facts shown per_paper load)
 
--- the answer to a query: the first broken rule of its list, or what is told
+-- the answer to a query: the first broken rule of its list, or else the reply
 abbrev pub answer_by : Facts → Shown → Option ℕ → Query → Reply
 answer_by facts shown caller query =
     reply_or_rule (judged (query_checks facts shown query) (told_by facts shown caller query))
 
--- the reply may take memory to find: it is no refusal, or that there is no plan. All other rules are told whatever
--- memory there is
+-- the reply may take memory to find: it is no refusal, or it is that there is no plan. All other refusals are told
+-- whatever memory there is.
 abbrev pub MayTakeMemory : Reply → Type 0
 MayTakeMemory reply = (rule : Rule) → rule ≢ rules.NoPlan → reply ≢ replies.Refused rule
 
--- the answer to a query by checks on the tables
+-- the answer to a user's query by checks on the tables
 abbrev pub answer_by_role : Tables → Option ℕ → Query → Reply
 answer_by_role t caller query = answer_by (facts_of_tables t caller) (shown_in_tables t) caller query

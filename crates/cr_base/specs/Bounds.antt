@@ -22,6 +22,7 @@ pub record IsForm (form : Form) : Type 0 where
   pub to_authors : IsReviewText form.to_authors
   pub to_pc : IsReviewText form.to_pc
 
+-- the texts and numbers of a command are within their bounds
 abbrev pub IsBoundedCommand : Command → Type 0
 IsBoundedCommand (Register name digest) = IsName name × (length digest ≡ 32)
 IsBoundedCommand (Submit title abstract authors) = IsTitle title × IsAbstract abstract × (length authors ≤ 19)

@@ -1,4 +1,4 @@
--- Bulk assignment: what a row asks for, and how the rows of a file are judged, each behind those before it (the HotCRP
+-- Bulk assignment: what a row asks for, and how the rows of a file are judged, each after those before it (the HotCRP
 -- manual's bulk assignment files; their actions and columns here are the server's own).
 use Rattle.std.specs.Prelude.{ℕ, Bool, true, false, not, ◌+◌, ◌≤◌, List, [], ◌∷◌, ◌++◌}
 use Rattle.std.specs.Prelude.{map, length, Option, Some, None, Result, Ok, Err, if◌then◌else◌, codes}
@@ -69,6 +69,7 @@ command_by (turns_conflict on) row = Ok (commands.SetConflict (parse_paper row.p
 command_by (turns_tag on) row =
     if is_tag row.tag then Ok (commands.Tag (parse_paper row.paper) row.tag on) else Err rules.BadTag
 
+-- the command that a row with this action tells; `BadAction` if it has none, and `BadTag` if its tag is not valid
 abbrev pub command_told_by : Option Action → BulkRow → Result Command Rule
 command_told_by None row = Err rules.BadAction
 command_told_by (Some action) row = command_by action row
@@ -91,7 +92,7 @@ resolved_of_row (by_number.Assign paper user kind) = resolved.Assign paper user 
 resolved_of_row (by_number.Unassign paper user) = resolved.Unassign paper user
 resolved_of_row (by_number.Tag paper tag on) = resolved.Tag paper tag on
 
--- a row's command with whom it names looked up among the accounts
+-- a row's command with the user that it names looked up among the accounts
 abbrev pub resolve_row : List AccountLine → RowCommand → ResolvedRow
 resolve_row accounts (of_row.Conflict paper name on) = by_number.Conflict paper (user_among accounts name) on
 resolve_row accounts (of_row.Assign paper name kind) = by_number.Assign paper (user_among accounts name) kind
@@ -131,6 +132,7 @@ row_resolved_by facts shown stamp command =
 abbrev pub row_judged_by : Facts → Shown → Stamp → Command → Result Drawn Rule
 row_judged_by facts shown stamp command = row_resolved_by facts shown stamp (resolve facts.accounts command)
 
+-- the judgement of what a row tells under this stamp: its command's, or the rule that it breaks by itself
 abbrev pub row_told_judged : Facts → Shown → Stamp → Result Command Rule → Result Drawn Rule
 row_told_judged facts shown stamp (Err rule) = Err rule
 row_told_judged facts shown stamp (Ok command) = row_judged_by facts shown stamp command
@@ -141,28 +143,28 @@ row_judged facts shown stamp row = row_told_judged facts shown stamp (row_comman
 
 -- ---- all rows
 
--- what rows are judged on: what is told there, and what it is behind further entries of the caller's
+-- what rows are judged on: which facts it gives, and what it is after more entries of the caller's
 pub record Basis (S : Type 0) : Type 0 where
   pub facts : S → Facts
   pub shown : S → Shown
   pub behind : S → History → S
 
--- the entries alone
+-- the entries, without their stamps
 abbrev pub entries_of : History → List Entry
 entries_of group = map (λ (e : Stamped). e.entry) group
 
--- what the further rows add, behind what was added before
+-- what was added before, followed by what the further rows add
 abbrev pub and_rows : List Entry → Result (List Entry) Broken → Result (List Entry) Broken
 and_rows entries (Ok more) = Ok (entries ++ more)
 and_rows entries (Err refusal) = Err refusal
 
--- what a row adds, and what those behind it do; or that it is the one, of this number, that breaks a rule
+-- what a row adds and then what those after it do; or that the row of this number breaks this rule
 abbrev pub and_behind : ℕ → Result Drawn Rule → (History → Result (List Entry) Broken) → Result (List Entry) Broken
 and_behind n (Err rule) behind = Err (broken.Row n rule)
 and_behind n (Ok drawn) behind = and_rows (entries_of drawn.group) (behind drawn.group)
 
--- the entries that the rows add, each judged behind those before it, or the first row that breaks a rule, where
--- the first of them has this number
+-- the entries that the rows add, each judged after those before it; or the first row that breaks a rule. The first of
+-- the rows has this number.
 abbrev pub rows_judged : {S : Type 0} → Basis S → Stamp → S → ℕ → List BulkRow → Result (List Entry) Broken
 rows_judged basis stamp s n [] = Ok []
 rows_judged basis stamp s n (row ∷ rows) =
@@ -171,7 +173,7 @@ rows_judged basis stamp s n (row ∷ rows) =
 
 -- ---- the bulk
 
--- chairs alone, from bidding to discussion
+-- only chairs send bulks, from the bidding to the discussion
 abbrev pub bulk_checks : Standing → List Check
 bulk_checks by =
     not (is_chair by.role) breaks rules.NotChair
@@ -182,10 +184,12 @@ bulk_checks by =
 abbrev pub bulk_drawn : Stamp → ℕ → List Entry → Drawn
 bulk_drawn stamp count entries = record { group = grouped stamp entries; receipt = receipts.Rows count }
 
+-- what a bulk draws whose rows add these entries: they are one group, and the receipt counts the rows
 abbrev pub bulk_of_rows : Stamp → ℕ → Result (List Entry) Broken → Result Drawn Broken
 bulk_of_rows stamp count (Ok entries) = Ok (bulk_drawn stamp count entries)
 bulk_of_rows stamp count (Err refusal) = Err refusal
 
+-- the judgement of a bulk, by what its rules as a whole give: its rows', or the broken rule
 abbrev pub bulk_behind : {S : Type 0} → Basis S → S → BulkCall → Result (Unit {0}) Rule → Result Drawn Broken
 bulk_behind basis s bulk (Err rule) = Err (broken.Rule rule)
 bulk_behind basis s bulk (Ok done) =
@@ -209,6 +213,6 @@ bulk_by_role t bulk = bulk_judged (tables_basis bulk.stamp.maker) t bulk
 
 -- ---- the bounds of a bulk
 
--- so many rows at most
+-- a bulk has at most 512 rows
 abbrev pub IsBoundedBulk : List BulkRow → Type 0
 IsBoundedBulk rows = length rows ≤ 512

@@ -1,5 +1,5 @@
--- Calls: who asks for what, when, and by which number, and the stamp under which what they add is kept. Moments are
--- seconds (Moments).
+-- Calls: who asks for what, when, and by which number, and the stamp under which the entries that it adds are kept.
+-- Timestamps are in seconds (Moments).
 use Rattle.std.specs.Prelude.{ℕ, List, Option, Some, unwrap_or}
 use Rattle.cr_base.specs.declared.bulk.BulkRow.{BulkRow}
 use Rattle.cr_base.specs.declared.command.Call.{Call}
@@ -9,19 +9,19 @@ use Rattle.cr_base.specs.declared.resolved.ResolvedCall.{ResolvedCall}
 use Rattle.cr_base.specs.declared.resolved.ResolvedCommand.{ResolvedCommand}
 use Rattle.cr_base.specs.declared.retry.RetryKey.{RetryKey}
 
--- the stamp of what a user's request at that moment adds, by the key of its command, if any
+-- the stamp of what a user's request at this timestamp adds, by a command with this number, or none
 abbrev pub stamp_by : ℕ → ℕ → Option RetryKey → Stamp
 stamp_by user at key = record { maker = user; at = at; key = key }
 
--- who makes the entries of a caller's command: nobody makes any but a registration
+-- the actor of the entries of a caller's command; 0 for an unauthenticated caller, who adds nothing but a registration
 abbrev pub maker_of : Option ℕ → ℕ
 maker_of caller = unwrap_or caller 0
 
--- the stamp of a call's entries: its caller makes them, but for a registration, whose maker is the new user
+-- the stamp of a call's entries: their actor is the caller, except of a registration, whose actor is the new user
 abbrev pub stamp_of : Call → Stamp
 stamp_of call = stamp_by (maker_of call.caller) call.at call.key
 
--- the command of this caller, who may be nobody, at that moment, by that key
+-- the command of this caller, who may be unauthenticated, at this timestamp, with this number
 abbrev pub call_of : Option ℕ → ℕ → Option RetryKey → Command → Call
 call_of caller at key command = record { caller = caller; at = at; key = key; command = command }
 
@@ -38,6 +38,6 @@ pub record BulkCall : Type 0 where
   pub stamp : Stamp
   pub rows : List BulkRow
 
--- the bulk of this user at that moment, by that key
+-- the bulk of this user at this timestamp, with this number
 abbrev pub bulk_by : ℕ → ℕ → Option RetryKey → List BulkRow → BulkCall
 bulk_by user at key rows = record { stamp = stamp_by user at key; rows = rows }

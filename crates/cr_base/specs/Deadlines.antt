@@ -21,16 +21,16 @@ last_deadline = 253402207200
 abbrev pub IsDeadline : ℕ → Type 0
 IsDeadline seconds = (1 ≤ seconds) × (seconds ≤ last_deadline)
 
--- the deadline, where there is one
+-- the deadline, if there is one, is within its bounds
 abbrev pub IsDeadlineOrNone : Option ℕ → Type 0
 IsDeadlineOrNone None = Unit {0}
 IsDeadlineOrNone (Some seconds) = IsDeadline seconds
 
--- the deadline of so many seconds, where there is one
+-- the deadline of this many seconds; `None` if there is no such deadline
 abbrev pub deadline_of_seconds : ℕ → Option ℕ
 deadline_of_seconds seconds = if nat_le 1 seconds && nat_le seconds last_deadline then Some seconds else None
 
--- the moment is past the deadline, where there is one: it is later, and not that very second
+-- the timestamp is past the deadline, if there is one: it is later than that second
 abbrev pub is_past : Option ℕ → ℕ → Bool
 is_past None at = false
 is_past (Some until) at = nat_lt until at
@@ -42,7 +42,7 @@ abbrev pub no_deadlines : Deadlines
 no_deadlines =
     record { submission = None; bidding = None; reviewing = None; response = None; discussion = None }
 
--- the deadline of a phase, where it has one
+-- the deadline of a phase; `None` if it has none
 abbrev pub deadline_in : Deadlines → Phase → Option ℕ
 deadline_in deadlines Setup = None
 deadline_in deadlines Submission = deadlines.submission

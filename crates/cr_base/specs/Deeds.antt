@@ -26,8 +26,8 @@ use Rattle.cr_base.specs.Sources.{Facts, Shown, number_in, role_among, is_there,
 use Rattle.cr_base.specs.Sources.{target_named, is_late}
 use Rattle.cr_base.specs.TagTexts.{is_for_chairs}
 
--- what a command asks and does, whatever its stamp: what must not be broken, who makes its entries, the first of these,
--- by which it is answered, and those behind it
+-- what a command asks and does, whatever its stamp: its rules, the actor of its entries, the first of these, by which
+-- it is answered, and those after it
 pub record Deed : Type 0 where
   pub checks : List Check
   pub maker : ℕ
@@ -38,11 +38,11 @@ pub record Deed : Type 0 where
 abbrev pub one : ℕ → List Check → Entry → Deed
 one maker checks entry = record { checks = checks; maker = maker; first = entry; behind = [] }
 
--- the role of a user who may be nobody, as a rule asks of it that asks no more of her
+-- a user, who may not be there, of whom a rule asks only the role
 abbrev pub role_asked : Facts → Option ℕ → Option Target
 role_asked facts user = option_map of_role (role_among facts.accounts user)
 
--- a co-author isn't there: one of the names told is nobody's, or one of the numbers
+-- a co-author isn't there: one of the names told, or one of the numbers, is no user's
 abbrev pub is_missing : List AccountLine → Option (List ℕ) → Bool
 is_missing accounts users = option_map_or (λ (us : List ℕ). not (list_all (is_there accounts) us)) users true
 
@@ -149,8 +149,10 @@ drawn_by accounts stamp d = record {
   receipt = receipt_of (name_told_by accounts d.first) d.first;
 }
 
+-- the judgement of a deed under this stamp: the first broken rule, or what it draws
 abbrev pub judged_by : List AccountLine → Stamp → Deed → Result Drawn Rule
 judged_by accounts stamp d = judged d.checks (drawn_by accounts stamp d)
 
+-- what a resolved command asks and does, by these facts
 abbrev pub deed_at : Facts → Shown → Stamp → ResolvedCommand → Deed
 deed_at facts shown stamp command = deed facts shown stamp.maker (is_late facts stamp.at) command

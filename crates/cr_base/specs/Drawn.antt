@@ -19,7 +19,7 @@ pub record Drawn : Type 0 where
   pub group : History
   pub receipt : Receipt
 
--- an entry under its command's stamp, and whether another entry of the command follows
+-- an entry under its command's stamp, with the mark whether another entry of the command follows
 abbrev pub stamped : Stamp → Bool → Entry → Stamped
 stamped stamp more entry = record { stamp = stamp; more = more; entry = entry }
 
@@ -29,8 +29,8 @@ grouped stamp [] = []
 grouped stamp (e ∷ []) = stamped stamp false e ∷ []
 grouped stamp (e ∷ next ∷ es) = stamped stamp true e ∷ grouped stamp (next ∷ es)
 
--- what a command is answered, by the first entry that it adds; `name` is that of the user who is given a
--- role, or loses it. A co-author never comes first.
+-- what a command is answered, by the first entry that it adds; `name` is that of the user who is appointed to a role or
+-- dismissed. A co-author never comes first.
 abbrev pub receipt_of : List ℕ → Entry → Receipt
 receipt_of name (Registered user own digest) = receipts.User user
 receipt_of name (Named user role) = receipts.Named name role
@@ -55,30 +55,31 @@ receipt_of name (Invited paper user) = receipts.Changed paper
 receipt_of name (Uninvited paper user) = receipts.Changed paper
 receipt_of name (Responded paper text) = receipts.Paper paper
 
--- what a command draws that adds one entry, and changes nobody's role
+-- what a command draws that adds this one entry, and changes no user's role
 abbrev pub alone : Stamp → Entry → Drawn
 alone stamp entry = record { group = grouped stamp (entry ∷ []); receipt = receipt_of [] entry }
 
 -- ---- behind the first entry
 
--- of a registration: the first account is a chair
+-- what follows a registration: user 1 becomes a chair
 abbrev pub behind_registration : ℕ → List Entry
 behind_registration user = if user == 1 then Named user Chair ∷ [] else []
 
--- a registration's entries
+-- the entries of a registration
 abbrev pub registration : ℕ → List ℕ → List ℕ → List Entry
 registration user name digest = Registered user name digest ∷ behind_registration user
 
--- those of the users who are none of these, each where she comes first
+-- the users who aren't in `these`, each once, in order
 abbrev pub besides : List ℕ → List ℕ → List ℕ
 besides these [] = []
 besides these (u ∷ users) =
     if list_any (λ v. v == u) these then besides these users else u ∷ besides (these ++ u ∷ []) users
 
--- of a submission with these co-authors, in the order told; who submits it, or was told before, makes no second entry
+-- the entries of co-authors that follow a submission, in the order told. The submitter, and a user told before, add
+-- none.
 abbrev pub coauthor_entries : ℕ → ℕ → List ℕ → List Entry
 coauthor_entries maker paper users = map (λ (user : ℕ). Coauthor paper user) (besides (maker ∷ []) users)
 
--- the entries of a submission
+-- the entries of a submission with these co-authors
 abbrev pub submission : ℕ → ℕ → List ℕ → List ℕ → List ℕ → List Entry
 submission maker paper title abstract users = Submitted paper title abstract ∷ coauthor_entries maker paper users

@@ -1,5 +1,5 @@
--- Histories, and what one entry tells: each definition gives the values that the entry adds to one fact, at
--- most one.
+-- Histories, and what one entry tells: each definition ending in `_told` gives the values that an entry adds to one
+-- fact, at most one. In the records a field that an answer or a view may hide is `None` where it is hidden.
 use Rattle.std.specs.Prelude.{ℕ, Bool, true, false, List, [], ◌∷◌, Option, Some, None, ◌&&◌, ◌==◌, length}
 use Rattle.std.specs.List.{flat_map}
 use Rattle.std.specs.Str.{bytes_eq}
@@ -23,12 +23,12 @@ use Rattle.cr_base.specs.Lists.{given, is_number}
 use Rattle.cr_base.specs.Phases.{is_phase, may_have_deadline}
 use Rattle.cr_base.specs.Tags.{tag_owner}
 
--- History: the entries of the accepted commands, in order. Those of one command stand together, and all of them
--- but the last have the mark `more`.
+-- the entries of the accepted commands, in order. Those of one command are next to each other, and all of them but the
+-- last have the mark `more`.
 abbrev pub History : Type 0
 History = List Stamped
 
--- a user's number and her name
+-- a user's number and name
 pub record Registration : Type 0 where
   pub user : ℕ
   pub name : List ℕ
@@ -38,18 +38,20 @@ pub record Upload : Type 0 where
   pub version : ℕ
   pub content : List ℕ
 
--- a bid on a paper, kept plus 20, and whose it is
+-- a bid on a paper, kept plus 20, and the user who made it
 pub record BidTold : Type 0 where
   pub user : ℕ
   pub value : ℕ
 
--- a reviewer of a paper: the ordinal of her label, and what she is to it and who she is, where that is told
+-- a reviewer of a paper: the ordinal of the reviewer's label, whether they are the primary, the secondary or another,
+-- and who they are
 pub record SeatTold : Type 0 where
   pub ordinal : ℕ
   pub kind : Option Kind
   pub user : Option ℕ
 
--- a form of a review: what is for the committee alone, and its number, where that is told
+-- a form of a review: its number among those of its label, what it says to the authors, and what it says to the
+-- committee only
 pub record FormTold : Type 0 where
   pub version : Option ℕ
   pub score : ℕ
@@ -57,15 +59,14 @@ pub record FormTold : Type 0 where
   pub to_authors : List ℕ
   pub to_pc : Option (List ℕ)
 
--- a comment: who wrote it, where that is told, and the ordinal under which she reviews the paper,
--- where that is told and she does
+-- a comment: its number, who wrote it, and the ordinal under which the writer reviews the paper, if they do
 pub record CommentTold : Type 0 where
   pub n : ℕ
   pub writer : Option ℕ
   pub ordinal : Option ℕ
   pub text : List ℕ
 
--- a tag that is turned on or off
+-- a tag, and whether it is turned on or off
 pub record TagTold : Type 0 where
   pub tag : SetTag
   pub on : Bool
@@ -74,7 +75,7 @@ pub record TagTold : Type 0 where
 abbrev pub all_told : {A : Type 0} → (Entry → List A) → History → List A
 all_told told H = flat_map (λ (e : Stamped). told e.entry) H
 
--- the same, where it counts who made the entry
+-- what each entry tells, in order, where this depends on the user who made the entry as well
 abbrev pub all_told_by : {A : Type 0} → (ℕ → Entry → List A) → History → List A
 all_told_by told H = flat_map (λ (e : Stamped). told e.stamp.maker e.entry) H
 
@@ -83,21 +84,22 @@ abbrev pub phase_told : Entry → List Phase
 phase_told (PhaseSet phase) = phase ∷ []
 phase_told _ = []
 
+-- the mode that the entry sets
 abbrev pub mode_told : Entry → List Mode
 mode_told (ModeSet mode) = mode ∷ []
 mode_told _ = []
 
--- what it tells of a phase's deadline that the deadline of one is set: that it has this one now, or none; of a phase
--- that may have none, nothing
+-- what setting the deadline of `set` to `until` tells of the deadline of `phase`: `until`, if both are one phase and
+-- chairs may set a deadline of it; else nothing
 abbrev pub deadline_given : Phase → Phase → Option ℕ → List (Option ℕ)
 deadline_given phase set until = given (may_have_deadline set && is_phase set phase) until
 
--- the deadline of the phase that it sets, or that it has none any more
+-- the deadline that the entry sets for the phase; `None` if it says that the phase has none any more
 abbrev pub deadline_told : Phase → Entry → List (Option ℕ)
 deadline_told phase (DeadlineSet set until) = deadline_given phase set until
 deadline_told phase _ = []
 
--- whether it opens this phase
+-- the entry sets the phase to this one
 abbrev pub opens : Phase → Entry → Bool
 opens first (PhaseSet phase) = is_phase phase first
 opens first _ = false
@@ -106,65 +108,66 @@ opens first _ = false
 abbrev pub opens_discussion : Stamped → Bool
 opens_discussion e = opens Discussion e.entry
 
--- whether it opens the response
+-- the entry sets the phase to the response
 abbrev pub opens_response : Stamped → Bool
 opens_response e = opens Response e.entry
 
--- the paper that it makes
+-- the paper that the entry submits
 abbrev pub paper_told : Entry → List ℕ
 paper_told (Submitted paper title abstract) = paper ∷ []
 paper_told _ = []
 
--- the same, where the user made it
+-- the paper that the entry submits, if the user made it
 abbrev pub own_paper_told : Option ℕ → ℕ → Entry → List ℕ
 own_paper_told u maker (Submitted paper title abstract) = given (is_number u maker) paper
 own_paper_told u maker _ = []
 
--- the author whom it gives the paper, where `maker` made it
+-- the author that the entry, which `maker` made, gives the paper: the submitter, or a co-author
 abbrev pub author_told : ℕ → ℕ → Entry → List ℕ
 author_told p maker (Submitted paper title abstract) = given (paper == p) maker
 author_told p maker (Coauthor paper user) = given (paper == p) user
 author_told p maker _ = []
 
--- whether it turns the user's declared conflict with the paper on or off
+-- whether the entry turns the user's declared conflict with the paper on or off
 abbrev pub conflict_told : Option ℕ → ℕ → Entry → List Bool
 conflict_told u p (Conflict paper user on) = given (paper == p && is_number u user) on
 conflict_told u p _ = []
 
--- whom it names in a conflict with the paper, where `authors` made it
+-- the user whom the entry names in a conflict with the paper, if `authors`: whether an author of the paper made it
 abbrev pub declared_told : Bool → ℕ → Entry → List ℕ
 declared_told authors p (Conflict paper user on) = given (paper == p && authors) user
 declared_told authors p _ = []
 
--- the user's bid on the paper, where `maker` made it
+-- the user's bid on the paper, if the entry is one; `maker` made it
 abbrev pub bid_told : Option ℕ → ℕ → ℕ → Entry → List ℕ
 bid_told u p maker (Bid paper value) = given (paper == p && is_number u maker) value
 bid_told u p maker _ = []
 
--- the ordinal under which the user reviews the paper from here on, none where she no longer does
+-- the ordinal under which the user reviews the paper from this entry on: `Some` if it assigns the user, `None` if it
+-- unassigns them
 abbrev pub ordinal_told : Option ℕ → ℕ → Entry → List (Option ℕ)
 ordinal_told u p (Assigned paper user kind ordinal) = given (paper == p && is_number u user) (Some ordinal)
 ordinal_told u p (Unassigned paper user ordinal) = given (paper == p && is_number u user) None
 ordinal_told u p _ = []
 
--- whether the user may review the paper from here on as one from outside the committee: it invites her to the paper, or
--- takes that back
+-- whether the user is invited to the paper from this entry on: true if it invites them, false if it ends the invitation
 abbrev pub invite_told : Option ℕ → ℕ → Entry → List Bool
 invite_told u p (Invited paper user) = given (paper == p && is_number u user) true
 invite_told u p (Uninvited paper user) = given (paper == p && is_number u user) false
 invite_told u p _ = []
 
--- the reviewer whom it gives the paper, and the ordinal of the one whom it takes
+-- the reviewer whom the entry assigns to the paper
 abbrev pub assigned_told : ℕ → Entry → List SeatTold
 assigned_told p (Assigned paper user kind ordinal) =
     given (paper == p) (record { ordinal = ordinal; kind = Some kind; user = Some user })
 assigned_told p _ = []
 
+-- the ordinal of the reviewer whom the entry unassigns from the paper
 abbrev pub unassigned_told : ℕ → Entry → List ℕ
 unassigned_told p (Unassigned paper user ordinal) = given (paper == p) ordinal
 unassigned_told p _ = []
 
--- a form, all of it
+-- a form of this number with nothing hidden
 abbrev pub whole_form : ℕ → Form → FormTold
 whole_form version form = record {
   version = Some version;
@@ -174,87 +177,89 @@ whole_form version form = record {
   to_pc = Some form.to_pc;
 }
 
--- the form that it gives the label of this ordinal
+-- the form that the entry adds under the paper's label of this ordinal
 abbrev pub form_told : ℕ → ℕ → Entry → List FormTold
 form_told p o (Reviewed paper ordinal version form) = given (paper == p && ordinal == o) (whole_form version form)
 form_told p o _ = []
 
--- the form of the paper that the user wrote, where `maker` made it
+-- the form of the paper that the entry, which `maker` made, adds, if the user made it
 abbrev pub own_form_told : Option ℕ → ℕ → ℕ → Entry → List FormTold
 own_form_told u p maker (Reviewed paper ordinal version form) =
     given (paper == p && is_number u maker) (whole_form version form)
 own_form_told u p maker _ = []
 
--- the comment on the paper, where `maker` made it
+-- the comment on the paper that the entry, which `maker` made, adds
 abbrev pub comment_told : ℕ → ℕ → Entry → List CommentTold
 comment_told p maker (Commented paper n ordinal text) =
     given (paper == p) (record { n = n; writer = Some maker; ordinal = ordinal; text = text })
 comment_told p maker _ = []
 
--- the number of the comment, where the user made it
+-- the number of the comment that the entry adds, if the user made it
 abbrev pub own_comment_told : Option ℕ → ℕ → Entry → List ℕ
 own_comment_told u maker (Commented paper n ordinal text) = given (is_number u maker) n
 own_comment_told u maker _ = []
 
--- what the paper's authors respond
+-- the text that the paper's authors respond
 abbrev pub response_told : ℕ → Entry → List (List ℕ)
 response_told p (Responded paper text) = given (paper == p) text
 response_told p _ = []
 
--- the tag that it turns on or off at the paper, where `maker` made it
+-- the tag that the entry, which `maker` made, turns on or off at the paper
 abbrev pub tag_told : ℕ → ℕ → Entry → List TagTold
 tag_told p maker (Tagged paper tag on) =
     given (paper == p) (record { tag = record { tag = tag; owner = tag_owner tag maker }; on = on })
 tag_told p maker _ = []
 
--- what it decides of the paper
+-- what the entry decides on the paper
 abbrev pub decision_told : ℕ → Entry → List Decision
 decision_told p (Decided paper decision) = given (paper == p) decision
 decision_told p _ = []
 
--- the title, the abstract that it gives the paper
+-- the title that the entry gives the paper
 abbrev pub title_told : ℕ → Entry → List (List ℕ)
 title_told p (Submitted paper title abstract) = given (paper == p) title
 title_told p (Revised paper title abstract) = given (paper == p) title
 title_told p _ = []
 
+-- the abstract that the entry gives the paper
 abbrev pub abstract_told : ℕ → Entry → List (List ℕ)
 abstract_told p (Submitted paper title abstract) = given (paper == p) abstract
 abstract_told p (Revised paper title abstract) = given (paper == p) abstract
 abstract_told p _ = []
 
--- what it uploads to the paper
+-- the version and the content that the entry uploads to the paper
 abbrev pub upload_told : ℕ → Entry → List Upload
 upload_told p (Uploaded paper version content) = given (paper == p) (record { version = version; content = content })
 upload_told p _ = []
 
--- how many bytes it uploads, where the user made it
+-- how many bytes the entry uploads, if the user made it
 abbrev pub own_bytes_told : Option ℕ → ℕ → Entry → List ℕ
 own_bytes_told u maker (Uploaded paper version content) = given (is_number u maker) (length content)
 own_bytes_told u maker _ = []
 
--- that it withdraws the paper
+-- true, if the entry withdraws the paper
 abbrev pub withdrawal_told : ℕ → Entry → List Bool
 withdrawal_told p (Withdrawn paper) = given (paper == p) true
 withdrawal_told p _ = []
 
--- the account that it makes
+-- the account that the entry registers
 abbrev pub registration_told : Entry → List Registration
 registration_told (Registered user name digest) = record { user = user; name = name } ∷ []
 registration_told _ = []
 
--- the role to which it names the user, or an account's where it dismisses her
+-- the role that the user has from this entry on: the one to which it appoints them, or an account's if it dismisses
+-- them
 abbrev pub role_told : Option ℕ → Entry → List Role
 role_told u (Named user role) = given (is_number u user) role
 role_told u (Dismissed user) = given (is_number u user) Account
 role_told u _ = []
 
--- the user whom it registers under this name
+-- the number of the user whom the entry registers under this name
 abbrev pub number_told : List ℕ → Entry → List ℕ
 number_told name (Registered user name' digest) = given (bytes_eq name' name) user
 number_told name _ = []
 
--- the user whom it registers under this name with this digest
+-- the number of the user whom the entry registers under this name with this digest of a secret
 abbrev pub caller_told : List ℕ → List ℕ → Entry → List ℕ
 caller_told name digest (Registered user name' digest') = given (bytes_eq name' name && bytes_eq digest' digest) user
 caller_told name digest _ = []

@@ -29,15 +29,15 @@ use Rattle.cr_base.specs.History.{registration_told, role_told, number_told, cal
 
 -- ---- what is public
 
--- the last phase that was set, else setup
+-- the last phase that was set; setup if none was
 abbrev pub phase_of : History → Phase
 phase_of H = last_or Setup (all_told phase_told H)
 
--- the last mode that was set, else blind
+-- the last mode that was set; blind if none was
 abbrev pub mode_of : History → Mode
 mode_of H = last_or Blind (all_told mode_told H)
 
--- the deadline of a phase that was set last: none where none was, or it was taken away
+-- the deadline of the phase that was set last; none if none was, or it was taken away
 abbrev pub deadline_of : Phase → History → Option ℕ
 deadline_of phase H = last_or None (all_told (deadline_told phase) H)
 
@@ -45,7 +45,8 @@ deadline_of phase H = last_or None (all_told (deadline_told phase) H)
 abbrev pub had_response_of : History → Bool
 had_response_of H = list_any opens_response H
 
--- the last role that the user was named to, where she wasn't dismissed since; else account
+-- the role of the last entry that appointed the user or dismissed them (a dismissal leaves an account's); an account's
+-- if there is no such entry
 abbrev pub role_of : Option ℕ → History → Role
 role_of u H = last_or Account (all_told (role_told u) H)
 
@@ -63,16 +64,17 @@ accounts_of H =
 abbrev pub number_of : List ℕ → History → Option ℕ
 number_of name H = last (all_told (number_told name) H)
 
--- the user whose registration has this name and this digest; else nobody
+-- the user whose registration has this name and this digest of a secret; `None` if there is none
 abbrev pub caller_of : List ℕ → List ℕ → History → Option ℕ
 caller_of name digest H = last (all_told (caller_told name digest) H)
 
 -- ---- Ties
 
--- the paper's authors, the submitter first, the others in the order in which they were told
+-- the paper's authors: the submitter, then the co-authors in the order in which they were told
 abbrev pub authors_of : ℕ → History → List ℕ
 authors_of p H = all_told_by (author_told p) H
 
+-- the user is one of the paper's authors
 abbrev pub is_author : Option ℕ → ℕ → History → Bool
 is_author u p H = list_any (is_number u) (authors_of p H)
 
@@ -80,31 +82,32 @@ is_author u p H = list_any (is_number u) (authors_of p H)
 abbrev pub is_conflict_on : Option ℕ → ℕ → History → Bool
 is_conflict_on u p H = last_or false (all_told (conflict_told u p) H)
 
--- each author is in conflict with her paper, and so is whoever is declared so
+-- the user is in conflict with the paper: is an author of it, or is declared in conflict with it
 abbrev pub is_conflicted : Option ℕ → ℕ → History → Bool
 is_conflicted u p H = is_author u p H || is_conflict_on u p H
 
--- whom the paper's authors named in conflict with it
+-- the users whom the paper's authors named in conflict with it
 abbrev pub declared_by_authors : ℕ → History → List ℕ
 declared_by_authors p H = flat_map (λ (e : Stamped). declared_told (is_author (Some e.stamp.maker) p H) p e.entry) H
 
--- the ordinal under which the user reviews the paper: none where the last entry on the two takes her
--- off it, or none puts her on it
+-- the ordinal under which the user reviews the paper: that of the last entry on the two, if it assigns the user; none
+-- if it unassigns them, or there is no such entry
 abbrev pub ordinal_of : Option ℕ → ℕ → History → Option ℕ
 ordinal_of u p H = last_or None (all_told (ordinal_told u p) H)
 
+-- the user reviews the paper
 abbrev pub is_reviewer : Option ℕ → ℕ → History → Bool
 is_reviewer u p H = is_some (ordinal_of u p H)
 
--- the last invitation of the user to the paper wasn't taken back since
+-- the user was invited to the paper, and the last such invitation didn't end since
 abbrev pub is_invited : Option ℕ → ℕ → History → Bool
 is_invited u p H = last_or false (all_told (invite_told u p) H)
 
--- External: she is no member of the committee, and is invited to the paper
+-- the user is an external of the paper: not on the committee, and invited to the paper
 abbrev pub is_external : Option ℕ → ℕ → History → Bool
 is_external u p H = not (is_member (role_of u H)) && is_invited u p H
 
--- Standing: what a user is to the conference, and to a paper, if one is named
+-- what a user is to the conference, and to a paper, if one is named
 abbrev pub standing_of : Option ℕ → Option ℕ → History → Standing
 standing_of u paper H = record {
   phase = phase_of H;
@@ -122,45 +125,46 @@ standing_of u paper H = record {
 abbrev pub bid_of : Option ℕ → ℕ → History → Option ℕ
 bid_of u p H = last (all_told_by (bid_told u p) H)
 
--- whoever was assigned to the paper, in order, so by label
+-- each user who was assigned to the paper, in order of assignment and so of labels
 abbrev pub seats_of : ℕ → History → List SeatTold
 seats_of p H = all_told (assigned_told p) H
 
--- those of the seats whose ordinal none of these has
+-- the seats that have none of these ordinals
 abbrev pub seats_left : List ℕ → List SeatTold → List SeatTold
 seats_left gone seats = filter (λ (seat : SeatTold). not (list_any (λ o. o == seat.ordinal) gone)) seats
 
--- the paper's reviewers: the assigned whose ordinal has no unassigned
+-- the paper's reviewers: the seats whose ordinal was not unassigned
 abbrev pub reviewers_of : ℕ → History → List SeatTold
 reviewers_of p H = seats_left (all_told (unassigned_told p) H) (seats_of p H)
 
--- who was assigned to the paper under this ordinal, whether she has left since or not
+-- the user who was assigned to the paper under this ordinal, whether they have left since or not
 abbrev pub assigned_under : ℕ → List SeatTold → Option ℕ
 assigned_under o seats =
     option_and_then (λ (seat : SeatTold). seat.user) (find (λ (seat : SeatTold). seat.ordinal == o) seats)
 
 -- ---- reviews
 
--- the forms of the paper's label of this ordinal, in the order in which they were written,
--- which is that of their versions
+-- the forms under the paper's label of this ordinal, in the order in which they were written, which is that of their
+-- numbers
 abbrev pub forms_of : ℕ → ℕ → History → List FormTold
 forms_of p o H = all_told (form_told p o) H
 
--- the last of them, which the paper's authors read in the end
+-- the last form under the paper's label of this ordinal, which its authors read from the notification on
 abbrev pub last_form_of : ℕ → ℕ → History → Option FormTold
 last_form_of p o H = last (forms_of p o H)
 
--- those that the committee discusses: the last that was written before the discussion, and all later ones
+-- the forms under the paper's label of this ordinal that the committee discusses: the last one before the discussion,
+-- and all from it on
 abbrev pub forms_discussed_of : ℕ → ℕ → History → List FormTold
 forms_discussed_of p o H =
     listed (last (forms_of p o (until opens_discussion H))) ++ forms_of p o (since opens_discussion H)
 
--- the last that was written before the response was opened, to which the paper's authors respond: none where it never
--- was
+-- the form under the paper's label of this ordinal to which its authors respond: the last one before the response was
+-- opened; none if it never was
 abbrev pub early_form_of : ℕ → ℕ → History → Option FormTold
 early_form_of p o H = if had_response_of H then last (forms_of p o (until opens_response H)) else None
 
--- there is one
+-- a form was written under the paper's label of this ordinal
 abbrev pub is_written : ℕ → ℕ → History → Bool
 is_written p o H = not (is_nothing (forms_of p o H))
 
@@ -182,24 +186,25 @@ own_comments_of u H = length (all_told_by (own_comment_told u) H)
 abbrev pub response_of : ℕ → History → Option (List ℕ)
 response_of p H = last (all_told (response_told p) H)
 
--- what these turnings leave on
+-- the tags that are on after these were turned on and off, in order
 abbrev pub tags_left : List TagTold → List SetTag
 tags_left turned = fold (λ (ts : List SetTag) (t : TagTold). with_tag t.on t.tag ts) [] turned
 
--- the paper's tags that are on: each by its last entry, a private one by its owner's last
+-- the paper's tags that are on: each by the last entry on it, a private one by its owner's last
 abbrev pub tags_of : ℕ → History → List SetTag
 tags_of p H = tags_left (all_told_by (tag_told p) H)
 
 -- ---- papers
 
--- the last title, the last abstract that the paper was given
+-- the last title that the paper was given
 abbrev pub title_of : ℕ → History → Option (List ℕ)
 title_of p H = last (all_told (title_told p) H)
 
+-- the last abstract that the paper was given
 abbrev pub abstract_of : ℕ → History → Option (List ℕ)
 abstract_of p H = last (all_told (abstract_told p) H)
 
--- what was uploaded to the paper, in order
+-- the versions that were uploaded to the paper, in order
 abbrev pub uploads_of : ℕ → History → List Upload
 uploads_of p H = all_told (upload_told p) H
 
@@ -211,7 +216,8 @@ is_withdrawn p H = last_or false (all_told (withdrawal_told p) H)
 abbrev pub decision_of : ℕ → History → Option Decision
 decision_of p H = last (all_told (decision_told p) H)
 
--- Accepted: the paper is, in its authors' eyes
+-- the paper is accepted: the last decision on it is to accept it, it isn't withdrawn, and the phase is the notification
+-- or later
 abbrev pub is_accepted : ℕ → History → Bool
 is_accepted p H = is_accepted_when (phase_of H) (is_withdrawn p H) (decision_of p H)
 

@@ -1,6 +1,6 @@
--- The one judgement of commands: filled with the facts of a view it is `judge` of cr_policy, filled with those of the
--- tables it is `judge_by_role`. That of a command is that of its resolution: who is named is looked up once, among the
--- accounts that the facts tell, and everything behind speaks of users by number.
+-- The judgement of commands, by facts (Facts, Shown): with those of a view it is `judge` of cr_policy, with those of
+-- the tables `judge_by_role`. First the users that a command names are looked up among the accounts; all rules and
+-- entries go by their numbers.
 use Rattle.std.specs.Prelude.{Result}
 use Rattle.cr_base.specs.declared.command.Call.{Call}
 use Rattle.cr_base.specs.declared.command.Command.{Command}
@@ -31,5 +31,6 @@ resolved_by_role t call =
     judge_resolved (facts_of_tables t call.caller) (shown_in_tables t)
     (stamp_by (maker_of call.caller) call.at call.key) call.command
 
+-- the judgement of a call by checks on the tables
 abbrev pub judge_by_role : Tables → Call → Result Drawn Rule
 judge_by_role t call = judge_by (facts_of_tables t call.caller) (shown_in_tables t) (stamp_of call) call.command

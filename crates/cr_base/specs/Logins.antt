@@ -95,6 +95,7 @@ report_ask reports.Load = asks.LoadReport
 report_ask reports.Decisions = asks.DecisionsReport
 report_ask (reports.Letter paper) = asks.Letter
 
+-- what a request for this query asks for
 abbrev pub query_ask : Query → Ask
 query_ask queries.Me = asks.Me
 query_ask queries.Accounts = asks.Accounts
@@ -115,10 +116,11 @@ query_ask (queries.Plan per_paper load) = asks.Plan
 abbrev pub command_wants_login : Command → Bool
 command_wants_login command = ask_wants_login (command_ask command)
 
+-- a query requires authentication
 abbrev pub query_wants_login : Query → Bool
 query_wants_login query = ask_wants_login (query_ask query)
 
--- what has to be so where a login is wanted
+-- this holds if authentication is required (the `Bool`)
 abbrev pub IfWanted : Bool → Type 0 → Type 0
 IfWanted false A = Unit {0}
 IfWanted true A = A

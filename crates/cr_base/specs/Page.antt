@@ -1,6 +1,7 @@
--- A paper's page: which keys a caller is told, by her standing at the paper, and what they hold. When she is told them
--- follows CoCon's phases; title, abstract, authors, conflicts and review preferences are the HotCRP
--- manual's, and so are its kinds of review.
+-- A paper's page: which keys a caller is told, by their standing at the paper, and what the keys hold. From which phase
+-- on follows CoCon's phases; title, abstract, authors, conflicts, review preferences and the kinds of review are the
+-- HotCRP manual's. Each definition says of a caller with this standing whether a key is there; a `Bool` besides it says
+-- whether the paper is accepted. An unconflicted user is one who is in no conflict with the paper.
 use Rattle.std.specs.Prelude.{ℕ, Bool, not, ◌||◌, ◌&&◌, List, Option, Some, None, unwrap_or, if◌then◌else◌}
 use Rattle.cr_base.specs.declared.page.Bidder.{Bidder}
 use Rattle.cr_base.specs.declared.page.Page.{Page}
@@ -16,26 +17,27 @@ use Rattle.cr_base.specs.Words.{is_anonymous, is_overt, is_member, is_chair, no_
 
 -- ---- who is told
 
--- members, and chairs, who are not in conflict with the paper
+-- an unconflicted member; chairs are members
 abbrev pub is_clear_member : Standing → Bool
 is_clear_member by = is_member by.role && not by.conflicted
 
+-- an unconflicted chair
 abbrev pub is_clear_chair : Standing → Bool
 is_clear_chair by = is_chair by.role && not by.conflicted
 
--- who may be shown the paper at all, beside its authors and what is everyone's: members, and externals of it
+-- a caller who may be shown more of the paper than everyone, besides its authors: a member, or an external of it
 abbrev pub is_admitted : Standing → Bool
 is_admitted by = is_member by.role || by.external
 
--- externals of the paper who are not in conflict with it
+-- an unconflicted external of the paper
 abbrev pub is_clear_external : Standing → Bool
 is_clear_external by = by.external && not by.conflicted
 
--- those of both who are not in conflict with it, to whom it is shown
+-- an unconflicted member, or an unconflicted external of the paper
 abbrev pub reads_paper : Standing → Bool
 reads_paper by = is_clear_member by || is_clear_external by
 
--- the title: authors; members and clear externals from bidding; everyone, where the paper is accepted
+-- the title: authors; members and unconflicted externals from the bidding on; everyone if the paper is accepted
 abbrev pub gets_title : Standing → Bool → Bool
 gets_title by accepted =
     by.author
@@ -43,13 +45,13 @@ gets_title by accepted =
     || (is_clear_external by && members_see_papers by.phase)
     || accepted
 
--- the abstract: authors; clear members and clear externals from bidding; everyone, where the paper is published
+-- the abstract: authors; unconflicted members and externals from the bidding on; everyone if the paper is published
 abbrev pub gets_abstract : Standing → Bool → Bool
 gets_abstract by accepted =
     by.author || (reads_paper by && members_see_papers by.phase) || is_published by.phase accepted
 
--- who wrote it, to its authors; from bidding on to chairs in no conflict, and unless the mode is anonymous to such
--- members and externals; and to everyone, where the paper is accepted
+-- who wrote the paper: its authors; from the bidding on unconflicted chairs, and unless the mode is anonymous
+-- unconflicted members and externals; everyone if the paper is accepted
 abbrev pub shows_author : Standing → Bool → Bool
 shows_author by accepted =
     by.author
@@ -57,66 +59,68 @@ shows_author by accepted =
     || (reads_paper by && not (is_anonymous by.mode) && committee_sees_authors by.phase)
     || accepted
 
--- whether she is in conflict: members, externals and authors
+-- whether the caller is in conflict with the paper: members, externals and authors
 abbrev pub gets_conflict : Standing → Bool
 gets_conflict by = is_admitted by || by.author
 
--- who is declared in conflict: clear chairs from bidding
+-- who is declared in conflict with the paper: unconflicted chairs from the bidding on
 abbrev pub gets_conflicts : Standing → Bool
 gets_conflicts by = is_clear_chair by && chairs_see_conflicts by.phase
 
--- whom the authors declared: authors
+-- whom the authors declared in conflict with the paper: authors
 abbrev pub gets_declared : Standing → Bool
 gets_declared by = by.author
 
--- the versions of its content: authors all; clear members and clear externals from bidding the last, and so
--- everyone, where the paper is published
+-- the versions of the content: authors all; unconflicted members and externals from the bidding on the last; everyone
+-- the last if the paper is published
 abbrev pub gets_versions : Standing → Bool → Bool
 gets_versions by accepted =
     by.author || (reads_paper by && members_see_papers by.phase) || is_published by.phase accepted
 
--- whether it is withdrawn: authors; members and clear externals from bidding
+-- whether the paper is withdrawn: authors; members and unconflicted externals from the bidding on
 abbrev pub gets_withdrawn : Standing → Bool
 gets_withdrawn by =
     by.author
     || (is_member by.role && members_see_papers by.phase)
     || (is_clear_external by && members_see_papers by.phase)
 
--- her own bid: clear members from bidding
+-- the caller's own bid: unconflicted members from the bidding on
 abbrev pub gets_bid : Standing → Bool
 gets_bid by = is_clear_member by && members_see_own_bids by.phase
 
--- all bids: clear chairs from bidding
+-- all bids: unconflicted chairs from the bidding on
 abbrev pub gets_bids : Standing → Bool
 gets_bids by = is_clear_chair by && chairs_see_bids by.phase
 
--- her own label: clear members and clear externals who review the paper
+-- the caller's own label: unconflicted members and externals who review the paper
 abbrev pub gets_label : Standing → Bool
 gets_label by = reads_paper by && by.reviewer
 
--- who reviews the paper by name: clear chairs from bidding; clear members from discussion unless anonymous; authors
--- from notification in the open mode
+-- who reviews the paper, by names: unconflicted chairs from the bidding on; unconflicted members from the discussion on
+-- unless the mode is anonymous; authors from the notification on in the open mode
 abbrev pub shows_reviewer : Standing → Bool
 shows_reviewer by =
     (is_clear_chair by && chairs_see_reviewers by.phase)
     || (is_clear_member by && not (is_anonymous by.mode) && members_see_reviewers by.phase)
     || (by.author && is_overt by.mode && authors_see_reviewers by.phase)
 
--- the reviewers, each by her label at least: the same, and clear members from discussion
+-- the reviewers, each by label at least: those to whom `shows_reviewer` shows names, and unconflicted members from the
+-- discussion on
 abbrev pub gets_reviewers : Standing → Bool
 gets_reviewers by = shows_reviewer by || (is_clear_member by && members_see_reviewers by.phase)
 
--- who wrote a comment, by name: from discussion clear chairs, and clear members unless anonymous
+-- who wrote a comment, by name: from the discussion on unconflicted chairs, and unconflicted members unless the mode is
+-- anonymous
 abbrev pub shows_writer : Standing → Bool
 shows_writer by =
     is_clear_member by && (is_chair by.role || not (is_anonymous by.mode)) && members_read_comments by.phase
 
--- the tags that are on: clear members from bidding
+-- the tags that are on: unconflicted members from the bidding on
 abbrev pub gets_tags : Standing → Bool
 gets_tags by = is_clear_member by && committee_sees_tags by.phase
 
--- the decision, to members in no conflict from discussion on, to its authors from notification on, and to
--- everyone where the paper is accepted
+-- the decision: unconflicted members from the discussion on; authors from the notification on; everyone if the paper is
+-- accepted
 abbrev pub gets_decision : Standing → Bool → Bool
 gets_decision by accepted =
     (is_clear_member by && members_read_decisions by.phase)
@@ -125,7 +129,7 @@ gets_decision by accepted =
 
 -- ---- the page
 
--- what the keys hold
+-- what the keys of a page hold
 pub record PaperTexts : Type 0 where
   pub title : Option (List ℕ)
   pub abstract_ : Option (List ℕ)
@@ -141,11 +145,11 @@ pub record PaperTexts : Type 0 where
   pub versions : List ℕ
   pub withdrawn : Bool
 
--- the value, where it is told
+-- the value if it is told, else `None`
 abbrev pub where_told : {A : Type 0} → Bool → Option A → Option A
 where_told told value = if told then value else None
 
--- the page of a paper, which is accepted or isn't
+-- the page of a paper that holds these texts, as a caller with this standing is told it
 abbrev pub page_of : Standing → Bool → ℕ → PaperTexts → Page
 page_of by accepted paper texts = record {
   paper = paper;

@@ -15,9 +15,9 @@ use Rattle.cr_base.specs.Lists.{numbered, numbers_from}
 
 -- ---- the state
 
--- what is kept of each paper: paper number n stands at index n - 1; the uploads, paper by paper, and those of a paper
--- in their order; how many papers each user has submitted, and how many bytes she has uploaded: her number is the
--- index, and who is past the end has none
+-- what is kept of each paper, number n at index n - 1; the uploads, paper by paper, and those of a paper in order; how
+-- many papers each user has submitted, and how many bytes they have uploaded, with the user's number as index: a user
+-- past the end has none
 pub record PapersState : Type 0 where
   pub papers : List Paper
   pub uploads : List (Filed Upload)
@@ -28,14 +28,14 @@ pub record PapersState : Type 0 where
 abbrev pub no_papers : PapersState
 no_papers = record { papers = []; uploads = []; submitted = []; uploaded = [] }
 
--- the sums with this much more at this index, with 0 before it where nothing is there yet
+-- the sums with this much more at this index, with 0 at indices before it that aren't there yet
 abbrev pub with_more : ℕ → ℕ → List ℕ → List ℕ
 with_more zero more [] = more ∷ []
 with_more zero more (n ∷ sums) = (n + more) ∷ sums
 with_more (suc i) more [] = 0 ∷ with_more i more []
 with_more (suc i) more (n ∷ sums) = n ∷ with_more i more sums
 
--- the papers with the one of this number changed, where it is there
+-- the papers with the one of this number changed, if it is there
 abbrev pub with_paper : ℕ → (Paper → Paper) → List Paper → List Paper
 with_paper p change papers =
     option_map_or (λ (paper : Paper). slice_set papers (p - 1) (change paper)) (numbered papers p) papers
@@ -44,9 +44,11 @@ with_paper p change papers =
 abbrev pub new_paper : List ℕ → List ℕ → Paper
 new_paper title abstract = record { title = title; abstract_ = abstract; withdrawn = false }
 
+-- the paper with this title and abstract
 abbrev pub with_texts : List ℕ → List ℕ → Paper → Paper
 with_texts title abstract paper = record { title = title; abstract_ = abstract; withdrawn = paper.withdrawn }
 
+-- the paper, withdrawn
 abbrev pub as_withdrawn : Paper → Paper
 as_withdrawn paper = record { title = paper.title; abstract_ = paper.abstract_; withdrawn = true }
 
@@ -71,6 +73,7 @@ papers_after state maker _ = state
 abbrev pub paper_count : PapersState → ℕ
 paper_count state = length state.papers
 
+-- the numbers of all papers
 abbrev pub paper_numbers : PapersState → List ℕ
 paper_numbers state = numbers_from 1 state.papers
 
@@ -78,9 +81,11 @@ paper_numbers state = numbers_from 1 state.papers
 abbrev pub text_at : (Paper → List ℕ) → PapersState → ℕ → Option (List ℕ)
 text_at part state p = option_map part (numbered state.papers p)
 
+-- the paper's title
 abbrev pub title_at : PapersState → ℕ → Option (List ℕ)
 title_at state p = text_at (λ (paper : Paper). paper.title) state p
 
+-- the paper's abstract
 abbrev pub abstract_at : PapersState → ℕ → Option (List ℕ)
 abstract_at state p = text_at (λ (paper : Paper). paper.abstract_) state p
 

@@ -18,7 +18,7 @@ is_paper_number text = is_short text && not (slice_index text 0 == 48) && list_a
 abbrev pub parse_paper : List ℕ → Option ℕ
 parse_paper text = if is_paper_number text then Some (digits_value 10 text) else None
 
--- the text, where it passes a test
+-- the text, if it passes the test; else `None`
 abbrev pub passing : (List ℕ → Bool) → List ℕ → Option (List ℕ)
 passing test text = if test text then Some text else None
 

@@ -1,6 +1,6 @@
--- Plans of assignments: so many more members for each paper and at most so many papers for each member, by what they
--- bid (paper assignment by preferences, as HotCRP's manual has it; which papers and members, and the text, are the
--- server's own). The plan told is defined over all plans that there are; nobody makes them all.
+-- Plans of assignments: this many more members for each paper and at most this many papers for each member, by what
+-- they bid (paper assignment by preferences, as HotCRP's manual has it; which papers and members, and the text, are the
+-- server's own). The plan that is told is defined as the best of all plans; the program doesn't make them all.
 use Rattle.std.specs.Prelude.{ℕ, Bool, not, ◌||◌, ◌&&◌, ◌+◌, ◌*◌, ◌==◌, nat_le, nat_lt, List, [], ◌∷◌, ◌++◌}
 use Rattle.std.specs.Prelude.{map, filter, find, count_by, decimal, codes, Option, Some, None, is_some, if◌then◌else◌}
 use Rattle.std.specs.List.{flat_map, list_all, list_any}
@@ -20,7 +20,7 @@ use Rattle.cr_base.specs.Words.{is_member, is_chair, no_bid}
 
 -- ---- what is planned
 
--- the paper has labels left for so many more reviewers
+-- the paper has labels left for this many more reviewers
 abbrev pub has_labels_for : Shown → ℕ → ℕ → Bool
 has_labels_for shown per_paper p = nat_le (shown.labels p + per_paper) 26
 
@@ -32,20 +32,19 @@ planned_papers facts shown per_paper = filter (has_labels_for shown per_paper) (
 abbrev pub planned_members : Facts → List AccountLine
 planned_members facts = filter (λ (a : AccountLine). is_member a.role) facts.accounts
 
--- the user may be assigned to the paper: she is no author of it, isn't declared in conflict with it, and doesn't review
--- it
+-- the user may be assigned to the paper: is no author of it, isn't declared in conflict with it, and doesn't review it
 abbrev pub is_free_for : Shown → ℕ → ℕ → Bool
 is_free_for shown p user =
     not (list_any (is_number (Some user)) (shown.authors p))
     && not (list_any (is_number (Some user)) (shown.conflicts p))
     && not (is_some (shown.ordinal (Some user) p))
 
--- her last bid on the paper, kept plus 20; who has told none has bid 0
+-- the user's last bid on the paper, kept plus 20; 20, which is bid 0, if there is none
 abbrev pub bid_by : Shown → ℕ → ℕ → ℕ
 bid_by shown p user =
     option_map_or (λ (bid : BidTold). bid.value) (find (λ (bid : BidTold). bid.user == user) (shown.bids p)) no_bid
 
--- a paper, a member who may be assigned to it, and her bid
+-- a paper, a member who may be assigned to it, and the member's bid
 pub record PlanPair : Type 0 where
   pub paper : ℕ
   pub member : AccountLine
@@ -57,20 +56,23 @@ pairs_of_paper facts shown p =
     map (λ (a : AccountLine). record { paper = p; member = a; bid = bid_by shown p a.user })
     (filter (λ (a : AccountLine). is_free_for shown p a.user) (planned_members facts))
 
+-- all pairs of a paper that is planned and a member who may be assigned to it, by paper, then member
 abbrev pub planned_pairs : Facts → Shown → ℕ → List PlanPair
 planned_pairs facts shown per_paper = flat_map (pairs_of_paper facts shown) (planned_papers facts shown per_paper)
 
 -- ---- which plans there are
 
--- all choices among these, in dictionary order: those with the first before those without it. (Where one choice is
--- the beginning of another it stands behind it; but no plan is the beginning of another, since all have as many pairs.)
+-- all choices among these, in dictionary order: those with the first before those without it. (A choice that is the
+-- beginning of another comes after it; but no plan is the beginning of another, since all have equally many pairs.)
 abbrev pub choices : {A : Type 0} → List A → List (List A)
 choices [] = [] ∷ []
 choices (x ∷ xs) = map (λ chosen. x ∷ chosen) (choices xs) ++ choices xs
 
+-- the pair is of this paper
 abbrev pub is_of_paper : ℕ → PlanPair → Bool
 is_of_paper p pair = pair.paper == p
 
+-- the pair is of this member
 abbrev pub is_of_member : ℕ → PlanPair → Bool
 is_of_member user pair = pair.member.user == user
 
@@ -88,8 +90,8 @@ plans facts shown per_paper load =
 
 -- ---- the one told
 
--- the sum of a plan's bids, each kept plus 20: of two plans, which have as many pairs, it is greater where the sum
--- of their bids is
+-- the sum of a plan's bids, each kept plus 20. Two plans have equally many pairs, so the sum is greater if and only if
+-- the sum of their bids is.
 abbrev pub bid_sum : List PlanPair → ℕ
 bid_sum plan = total (map (λ (pair : PlanPair). pair.bid) plan)
 
@@ -113,7 +115,8 @@ best_plan facts shown per_paper load = first_greatest (plans facts shown per_pap
 abbrev pub is_too_large : ℕ → ℕ → ℕ → Bool
 is_too_large per_paper papers members = nat_lt 512 (per_paper * papers) || nat_lt 4096 (papers * members)
 
--- chairs alone, from bidding to discussion, where it isn't too large; that there is no plan is found behind these
+-- the rules of asking for a plan, except that there is none: only chairs ask, from the bidding to the discussion, and
+-- it isn't too large
 abbrev pub plan_checks : Standing → Bool → List Check
 plan_checks by too_large =
     not (is_chair by.role) breaks rules.NotChair
@@ -127,9 +130,11 @@ plan_checks by too_large =
 unfoldable pub plan_header : List ℕ
 plan_header = codes "paper,action,user,tag\n"
 
+-- a row of a bulk that assigns this member to the paper
 unfoldable pub plan_row : ℕ → List ℕ → List ℕ
 plan_row p name = decimal p ++ codes ",pcreview," ++ name ++ codes ",\n"
 
+-- a row of a bulk that assigns the pair
 abbrev pub pair_row : PlanPair → List ℕ
 pair_row pair = plan_row pair.paper pair.member.name
 

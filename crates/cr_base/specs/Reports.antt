@@ -32,6 +32,7 @@ members_report by seen =
     ∷ not seen breaks rules.WrongPhase
     ∷ []
 
+-- the rules of a report for chairs, in the phases of which the `Bool` says that it may be had
 abbrev pub chairs_report : Standing → Bool → List Check
 chairs_report by seen =
     not (is_chair by.role) breaks rules.NotChair
@@ -46,6 +47,7 @@ letter_checks by there =
     ∷ not (letters_are_sent by.phase) breaks rules.WrongPhase
     ∷ []
 
+-- the rules of a report
 abbrev pub report_checks : Facts → Report → List Check
 report_checks facts reports.Papers =
     let by = facts.standing None in members_report by (members_see_papers by.phase)
@@ -62,6 +64,7 @@ report_checks facts (reports.Letter paper) = letter_checks (facts.standing paper
 unfoldable pub space : List ℕ
 space = codes " "
 
+-- the end of a line
 unfoldable pub line_end : List ℕ
 line_end = codes "\n"
 
@@ -69,6 +72,7 @@ line_end = codes "\n"
 abbrev pub to_right : ℕ → List ℕ → List ℕ
 to_right width text = replicate (width - length text) 32 ++ text
 
+-- the text with spaces after it, up to this width
 abbrev pub to_left : ℕ → List ℕ → List ℕ
 to_left width text = text ++ replicate (width - length text) 32
 
@@ -76,6 +80,7 @@ to_left width text = text ++ replicate (width - length text) 32
 abbrev pub in_four : ℕ → List ℕ
 in_four n = to_right 4 (decimal n)
 
+-- the number, right-aligned in two columns
 abbrev pub in_two : ℕ → List ℕ
 in_two n = to_right 2 (decimal n)
 
@@ -85,14 +90,15 @@ in_two n = to_right 2 (decimal n)
 abbrev pub is_clear_of : Facts → ℕ → Bool
 is_clear_of facts p = not (facts.standing (Some p)).conflicted
 
--- the papers that she is in no conflict with, and those of them that aren't withdrawn
+-- the papers with which the caller is in no conflict
 abbrev pub clear_papers : Facts → List ℕ
 clear_papers facts = filter (is_clear_of facts) facts.papers
 
+-- those of these papers that aren't withdrawn
 abbrev pub open_papers : Facts → Shown → List ℕ
 open_papers facts shown = filter (λ (p : ℕ). not (shown.withdrawn p)) (clear_papers facts)
 
--- a paper's title, where it is told
+-- a paper's title; empty if it isn't told
 abbrev pub title_by : Shown → ℕ → List ℕ
 title_by shown p = unwrap_or (shown.title p) []
 
@@ -102,14 +108,17 @@ title_by shown p = unwrap_or (shown.title p) []
 unfoldable pub paper_mark : Bool → Bool → List ℕ
 paper_mark withdrawn conflicted = if withdrawn then codes "W" else (if conflicted then codes "C" else codes "-")
 
+-- a paper's line in the report of all papers
 abbrev pub paper_line : Facts → Shown → ℕ → List ℕ
 paper_line facts shown p =
     in_four p ++ space ++ paper_mark (shown.withdrawn p) (facts.standing (Some p)).conflicted ++ space
     ++ title_by shown p ++ line_end
 
+-- the last line of the report of all papers
 unfoldable pub papers_end : ℕ → List ℕ
 papers_end count = decimal count ++ codes " papers" ++ line_end
 
+-- the report of all papers
 abbrev pub papers_told : Facts → Shown → List ℕ
 papers_told facts shown = flat_map (paper_line facts shown) facts.papers ++ papers_end (length facts.papers)
 
@@ -121,7 +130,7 @@ last_scores shown p =
     by_labels (λ (o : ℕ). map (λ (form : FormTold). form.score) (listed (last (shown.forms_discussed p o))))
     most_labels
 
--- the mean of n scores with this sum, in hundredths, to the nearest one, and up where two are as near
+-- the mean of n scores with this sum, in hundredths, rounded to the nearest, and up if two are equally near
 abbrev pub hundredths : ℕ → ℕ → ℕ
 hundredths sum n = (200 * sum + n) / (2 * n)
 
@@ -129,7 +138,7 @@ hundredths sum n = (200 * sum + n) / (2 * n)
 unfoldable pub two_decimals : ℕ → List ℕ
 two_decimals h = decimal (h / 100) ++ codes "." ++ decimal (h % 100 / 10) ++ decimal (h % 10)
 
--- the line of a paper with these scores, where it has any
+-- the line of a paper with these scores; none if it has none
 abbrev pub scores_line : ℕ → List ℕ → List ℕ → List ℕ
 scores_line p [] title = []
 scores_line p (score ∷ scores) title =
@@ -137,6 +146,7 @@ scores_line p (score ∷ scores) title =
     in_four p ++ space ++ in_two n ++ space ++ two_decimals (hundredths (total (score ∷ scores)) n)
     ++ space ++ title ++ line_end
 
+-- the report of scores
 abbrev pub scores_told : Facts → Shown → List ℕ
 scores_told facts shown =
     flat_map (λ (p : ℕ). scores_line p (last_scores shown p) (title_by shown p)) (open_papers facts shown)
@@ -154,8 +164,8 @@ abbrev pub is_seat_of_kind : Kind → SeatTold → Bool
 is_seat_of_kind kind seat =
     option_map_or (λ (k : Kind). review_kind_number k == review_kind_number kind) seat.kind false
 
--- a member's line: how many papers she reviews as primary, as secondary, and otherwise, and of
--- how many she has written a form
+-- a member's line: how many papers they review as primary, as secondary, and otherwise, and of how many they have
+-- written a form
 abbrev pub load_line : Facts → Shown → AccountLine → List ℕ
 load_line facts shown a =
     to_left 32 a.name
@@ -176,6 +186,7 @@ load_told facts shown =
 abbrev pub decision_word : Option Decision → List ℕ
 decision_word decision = option_map_or decision_name decision (codes "none")
 
+-- a paper's line in the report of decisions
 abbrev pub decision_line : Facts → Shown → ℕ → List ℕ
 decision_line facts shown p =
     in_four p ++ space ++ to_left 6 (decision_word (decision_by facts shown p)) ++ space
@@ -187,11 +198,13 @@ is_accepting None = false
 is_accepting (Some Accept) = true
 is_accepting (Some Reject) = false
 
+-- the decision is to reject
 abbrev pub is_rejecting : Option Decision → Bool
 is_rejecting None = false
 is_rejecting (Some Accept) = false
 is_rejecting (Some Reject) = true
 
+-- there is no decision
 abbrev pub is_undecided : Option Decision → Bool
 is_undecided None = true
 is_undecided (Some decision) = false
@@ -200,11 +213,13 @@ is_undecided (Some decision) = false
 abbrev pub decided : Facts → Shown → (Option Decision → Bool) → ℕ
 decided facts shown test = length (filter (λ (p : ℕ). test (decision_by facts shown p)) (open_papers facts shown))
 
+-- the last line of the report of decisions: how many are accepted, rejected and undecided
 unfoldable pub decisions_end : ℕ → ℕ → ℕ → List ℕ
 decisions_end accepted rejected undecided =
     codes "accept " ++ decimal accepted ++ codes ", reject " ++ decimal rejected ++ codes ", none "
     ++ decimal undecided ++ line_end
 
+-- the report of decisions
 abbrev pub decisions_told : Facts → Shown → List ℕ
 decisions_told facts shown =
     flat_map (decision_line facts shown) (open_papers facts shown)
@@ -216,10 +231,11 @@ decisions_told facts shown =
 unfoldable pub paper_named_line : ℕ → List ℕ → List ℕ
 paper_named_line p title = codes "Paper " ++ decimal p ++ codes ": " ++ title ++ line_end
 
+-- the line of a letter that names the decision
 unfoldable pub decision_named_line : List ℕ → List ℕ
 decision_named_line word = codes "Decision: " ++ word ++ line_end
 
--- who wrote a review, where that is told
+-- the line of a letter on who wrote a review, if that is told
 unfoldable pub writer_named : Option (List ℕ) → List ℕ
 writer_named writer = option_map_or (λ (name : List ℕ). codes " by " ++ name) writer []
 
@@ -238,6 +254,7 @@ letter_forms facts shown p =
     then option_and_then (name_in facts.accounts) (shown.assigned p o) else None in
     by_labels (λ (o : ℕ). flat_map (letter_form o (writer o)) (listed (shown.last_form p o))) most_labels
 
+-- the letter to a paper's authors
 abbrev pub letter_told : Facts → Shown → ℕ → List ℕ
 letter_told facts shown p =
     paper_named_line p (title_by shown p) ++ decision_named_line (decision_word (decision_by facts shown p))

@@ -1,5 +1,5 @@
--- Whom a command names: each user told by a name is her number among the accounts, or there is no such user. And the
--- command whose group begins with an entry, which tells users by number already.
+-- Which users a command names: each user told by a name is the number of that name among the accounts, or there is no
+-- such user. Besides, the command whose group begins with an entry, which tells users by number already.
 use Rattle.std.specs.Prelude.{ℕ, Bool, true, false, List, [], Option, Some, None, is_none, if◌then◌else◌}
 use Rattle.std.specs.List.{flat_map, list_any}
 use Rattle.cr_base.specs.declared.command.Call.{Call}
@@ -16,11 +16,11 @@ use Rattle.cr_base.specs.Sources.{user_among, users_among}
 
 -- ---- by names
 
--- the users found, where all were
+-- the users found; `None` if one wasn't
 abbrev pub all_found : List (Option ℕ) → Option (List ℕ)
 all_found users = if list_any is_none users then None else Some (flat_map listed users)
 
--- a line for each command
+-- the command with each user that it names looked up among the accounts
 abbrev pub resolve : List AccountLine → Command → ResolvedCommand
 resolve accounts (commands.Register name digest) = resolved.Register name digest
 resolve accounts (commands.SetPhase phase) = resolved.SetPhase phase
@@ -45,6 +45,7 @@ resolve accounts (commands.Dismiss name) = resolved.Dismiss (user_among accounts
 resolve accounts (commands.Invite paper name) = resolved.Invite paper (user_among accounts name)
 resolve accounts (commands.Uninvite paper name) = resolved.Uninvite paper (user_among accounts name)
 
+-- the call with each user that its command names looked up among the accounts
 abbrev pub resolve_call : List AccountLine → Call → ResolvedCall
 resolve_call accounts call = record {
   caller = call.caller;
@@ -53,15 +54,15 @@ resolve_call accounts call = record {
   command = resolve accounts call.command;
 }
 
--- a registration is nobody's, and all else a registered user's
+-- the command requires authentication: it isn't a registration
 abbrev pub resolved_wants_login : ResolvedCommand → Bool
 resolved_wants_login (resolved.Register name digest) = false
 resolved_wants_login command = true
 
 -- ---- by entries
 
--- the command whose group begins with the entry; of a submission the one without co-authors, and none whose group
--- begins with a co-author
+-- the command whose group begins with the entry, of a submission without its co-authors; `None` if the entry begins no
+-- command's group: a co-author
 abbrev pub command_of : Entry → Option ResolvedCommand
 command_of (entries.Registered user name digest) = Some (resolved.Register name digest)
 command_of (entries.Named user role) = Some (resolved.Name (Some user) role)
@@ -86,15 +87,17 @@ command_of (entries.Invited paper user) = Some (resolved.Invite (Some paper) (So
 command_of (entries.Uninvited paper user) = Some (resolved.Uninvite (Some paper) (Some user))
 command_of (entries.Responded paper text) = Some (resolved.Respond (Some paper) text)
 
--- the numbers of an entry that aren't its command's but are drawn: of a user or a paper, a version, a label's ordinal
--- or a comment's number, and the ordinal beside it of a review and a comment
+-- the numbers of an entry that its command doesn't give but that are drawn: of a user or a paper, a version, a label's
+-- ordinal or a comment's number; and, of a review and a comment, an ordinal besides
 pub record Numbers : Type 0 where
   pub number : ℕ
   pub ordinal : Option ℕ
 
+-- one drawn number, without an ordinal besides
 abbrev pub numbers : ℕ → Numbers
 numbers n = record { number = n; ordinal = None }
 
+-- the numbers of an entry that are drawn
 abbrev pub drawn_numbers : Entry → Numbers
 drawn_numbers (entries.Registered user name digest) = numbers user
 drawn_numbers (entries.Submitted paper title abstract) = numbers paper

@@ -53,6 +53,7 @@ abbrev pub last_form_before : ReviewsState → ℕ → ℕ → Phase → Option 
 last_form_before reviews p o phase =
     last (filter (λ (w : WrittenForm). not (is_from phase w.phase)) (forms_in reviews p o))
 
+-- the forms under the paper's label of this ordinal that were written in this phase or later
 abbrev pub forms_from : ReviewsState → ℕ → ℕ → Phase → List WrittenForm
 forms_from reviews p o phase = filter (λ (w : WrittenForm). is_from phase w.phase) (forms_in reviews p o)
 
@@ -60,12 +61,13 @@ forms_from reviews p o phase = filter (λ (w : WrittenForm). is_from phase w.pha
 abbrev pub written_told : WrittenForm → FormTold
 written_told w = whole_form w.version w.form
 
--- those that the committee discusses
+-- the forms under the paper's label of this ordinal that the committee discusses
 abbrev pub forms_discussed_in : ReviewsState → ℕ → ℕ → List FormTold
 forms_discussed_in reviews p o =
     map written_told (listed (last_form_before reviews p o Discussion) ++ forms_from reviews p o Discussion)
 
--- the last that was written before the response, where the response was opened
+-- the form under the paper's label of this ordinal to which its authors respond: the last that was written before the
+-- response, if the response was opened
 abbrev pub early_form_in : Bool → ReviewsState → ℕ → ℕ → Option FormTold
 early_form_in opened reviews p o =
     if opened then option_map written_told (last_form_before reviews p o Response) else None

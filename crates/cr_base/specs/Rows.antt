@@ -144,20 +144,22 @@ pub record Fields : Type 0 where
   pub b1 : List ℕ
   pub b2 : List ℕ
 
+-- the fields with these three numbers and two texts; the other numbers are 0
 abbrev pub fields : ℕ → ℕ → ℕ → List ℕ → List ℕ → Fields
 fields n1 n2 n3 b1 b2 = record { n1 = n1; n2 = n2; n3 = n3; n4 = 0; n5 = 0; b1 = b1; b2 = b2 }
 
--- a mark by its number
+-- a mark as a number
 abbrev pub bit_number : Bool → ℕ
 bit_number b = if b then 1 else 0
 
--- A number that may be none: itself, from 1, or 0 where there is none. But an entry of a definition may have a 0
--- there, and would be spelled as one without a number is. So that gets `past`, the first number past those that a row
--- may have there: the entry is out of its bounds, and of entries within theirs no two have the same row.
+-- a number that may be none: itself, from 1, or 0 if there is none. An entry out of its bounds may have a 0 there, and
+-- would have the row of one without a number. So it gets `past`, the first number after those that a row may have
+-- there.
 abbrev pub number_or_zero : ℕ → Option ℕ → ℕ
 number_or_zero past None = 0
 number_or_zero past (Some n) = if n == 0 then past else n
 
+-- the number that a field spells; `None` if it is 0
 abbrev pub numbered_from_one : ℕ → Option ℕ
 numbered_from_one n = if n == 0 then None else Some n
 
@@ -165,6 +167,7 @@ numbered_from_one n = if n == 0 then None else Some n
 abbrev pub label_number : Option ℕ → ℕ
 label_number ordinal = number_or_zero 27 ordinal
 
+-- the ordinal of a label that a field spells; `None` if it is 0
 abbrev pub label_numbered : ℕ → Option ℕ
 label_numbered n = numbered_from_one n
 
@@ -172,14 +175,15 @@ label_numbered n = numbered_from_one n
 abbrev pub until_number : Option ℕ → ℕ
 until_number until = number_or_zero 253402207201 until
 
+-- the deadline that a field spells; `None` if it is 0
 abbrev pub until_numbered : ℕ → Option ℕ
 until_numbered n = numbered_from_one n
 
--- a key that may be none by its fields: the command's number, 0 where there is none, and the mark, empty where there
--- is none
+-- the command's number; 0 if there is none
 abbrev pub key_number : Option RetryKey → ℕ
 key_number key = number_or_zero (last_command_number + 1) (option_map (λ (k : RetryKey). k.number) key)
 
+-- the mark of the command's request; empty if there is none
 abbrev pub key_mark : Option RetryKey → List ℕ
 key_mark None = []
 key_mark (Some key) = key.mark
@@ -235,7 +239,7 @@ row_of s =
 abbrev pub rows_of : List Stamped → List Row
 rows_of history = map row_of history
 
--- the row of a store of today, for a row of an older one: the same, at the first moment where it kept none, and
+-- the row of today's version for a row of an older one: equal to it, at timestamp 0 if the older one kept none, and
 -- without a number
 abbrev pub migrated : OldVersion → Row → Row
 migrated First r = record r { at = 0; num = 0; mark = [] }
@@ -245,7 +249,7 @@ migrated Second r = record r { num = 0; mark = [] }
 abbrev pub IsBoundedEntry : Stamped → Type 0
 IsBoundedEntry s = FitsShape (shape_of (kind_of s.entry)) (row_of s)
 
--- the entry of a kind that a row's fields spell, and none where a number is no word's
+-- the entry of a kind that a row's fields spell; `None` if a number is no word's
 abbrev pub built : EntryKind → Row → Option Entry
 built kind.Registered r = Some (Registered r.n1 r.b1 r.b2)
 built kind.Named r = option_map (λ (role : Role). Named r.n1 role) (role_numbered r.n2)
@@ -277,5 +281,6 @@ built kind.Responded r = Some (Responded r.n1 r.b1)
 abbrev pub stamped_by : Row → Entry → Stamped
 stamped_by r e = record { stamp = stamp_in r; more = r.more == 1; entry = e }
 
+-- the entry of a kind with its stamp that a row's fields spell; `None` if a number is no word's
 abbrev pub restored : EntryKind → Row → Option Stamped
 restored k r = option_map (stamped_by r) (built k r)

@@ -5,6 +5,7 @@ use Rattle.cr_base.specs.declared.search.Step.{Step}
 use Rattle.cr_base.specs.declared.search.Step.TheVariants as step
 use Rattle.cr_base.specs.declared.search.Term.{Term}
 
+-- what is asked for: a term, or an operation on one or two trees
 pub data Tree : Type 0 where
   -- a term holds
   asks : Term → Tree
@@ -40,6 +41,7 @@ abbrev pub behind_steps : List Step → List Tree → List Tree
 behind_steps [] trees = trees
 behind_steps (step ∷ steps) trees = behind_steps steps (behind_step step trees)
 
+-- the first of these searches, if there is one
 abbrev pub first_of_trees : List Tree → Option Tree
 first_of_trees [] = None
 first_of_trees (s ∷ trees) = Some s

@@ -1,5 +1,5 @@
--- Which papers a search finds. Each term is tried on what the caller is told of a paper by its page, its reviews, its
--- comments and its response. What she isn't told makes a term false, and so the denial of it true: no search tells
+-- Which papers a search finds. Each term goes by what the caller is told of a paper by its page, its reviews, its
+-- comments and its response. What the caller isn't told makes a term false, and so its negation true: no search tells
 -- what the answers don't.
 use Rattle.std.specs.Prelude.{ℕ, Bool, true, false, not, ◌&&◌, ◌||◌, ◌==◌, List, [], ◌∷◌, Option, is_some, unwrap_or}
 use Rattle.std.specs.Option.{option_map_or}
@@ -25,7 +25,7 @@ use Rattle.cr_base.specs.Words.{decision_number}
 
 -- ---- texts
 
--- the same byte, letters of ASCII without regard to case
+-- the two bytes are equal, or one ASCII letter in upper and lower case
 abbrev pub is_alike : ℕ → ℕ → Bool
 is_alike b c = to_ascii_lowercase b == to_ascii_lowercase c
 
@@ -35,16 +35,16 @@ begins_alike [] text = true
 begins_alike (b ∷ value) [] = false
 begins_alike (b ∷ value) (c ∷ text) = is_alike b c && begins_alike value text
 
--- the value stands somewhere in the text
+-- the value is in the text, whatever the case of ASCII letters
 abbrev pub contains : List ℕ → List ℕ → Bool
 contains value [] = begins_alike value []
 contains value (c ∷ text) = begins_alike value (c ∷ text) || contains value text
 
 -- ---- terms
 
--- what the caller is told of a paper, as terms ask: its page; whether it is accepted, and she is in conflict with it;
--- what she is answered where she asks for its reviews and its comments, nothing where a rule is broken; and whether she
--- is answered its authors' response
+-- what the caller is told of a paper, as terms ask: its page; whether it is accepted, and whether the caller is in
+-- conflict with it; the reviews and the comments that the caller is answered, none if a rule is broken; and whether the
+-- caller is answered its authors' response
 pub record PaperTold : Type 0 where
   pub page : Page
   pub accepted : Bool
@@ -61,27 +61,31 @@ text_has value text = option_map_or (contains value) text false
 abbrev pub name_has : List ℕ → Option (List (List ℕ)) → Bool
 name_has value names = option_map_or (list_any (contains value)) names false
 
--- one of the reviewers whose names are there has it in her name
+-- the value is in the name of one of the reviewers whose names are told
 abbrev pub reviewer_has : List ℕ → Option (List Reviewer) → Bool
 reviewer_has value reviewers =
     option_map_or (list_any (λ (reviewer : Reviewer). text_has value reviewer.user)) reviewers false
 
+-- the tag is one of those told
 abbrev pub has_tag : List ℕ → Option (List (List ℕ)) → Bool
 has_tag tag tags = option_map_or (list_any (bytes_eq tag)) tags false
 
--- a decision by its number in rows, and 0 where none was made
+-- a decision's number in rows; 0 if none was made
 abbrev pub number_decided : Option Decision → ℕ
 number_decided decision = option_map_or decision_number decision 0
 
+-- the decision told is this one, or none was made if that is asked
 abbrev pub has_decision : Option Decision → Option (Option Decision) → Bool
 has_decision decision told =
     option_map_or (λ (d : Option Decision). number_decided d == number_decided decision) told false
 
+-- the paper has this status, as told
 abbrev pub stands_so : Status → PaperTold → Bool
 stands_so Active told = option_map_or not told.page.withdrawn false
 stands_so Withdrawn told = option_map_or (λ (b : Bool). b) told.page.withdrawn false
 stands_so Accepted told = told.accepted
 
+-- the paper has this feature, as told
 abbrev pub has_feature : Feature → PaperTold → Bool
 has_feature features.Content told =
     option_map_or (λ (versions : List ℕ). not (is_nothing versions)) told.page.versions false
@@ -106,7 +110,7 @@ term_holds told (terms.Has feature) = has_feature feature told
 
 -- ---- searches
 
--- the search holds, where its terms hold as told
+-- the search holds, if this says which of its terms hold
 abbrev pub tree_holds : (Term → Bool) → Tree → Bool
 tree_holds holds (asks term) = holds term
 tree_holds holds (denies s) = not (tree_holds holds s)

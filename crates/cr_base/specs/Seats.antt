@@ -18,8 +18,8 @@ use Rattle.cr_base.specs.Ties.{pair_of}
 
 -- ---- the state
 
--- papers and whoever was assigned to them: paper by paper, and those of a paper in the order
--- in which they were, so by label
+-- papers and the users who were assigned to them: paper by paper, and those of a paper in the order of assignment, so
+-- by label
 abbrev pub SeatsState : Type 0
 SeatsState = List (Tie Seat)
 
@@ -32,7 +32,7 @@ abbrev pub seat_tie : ℕ → ℕ → Kind → ℕ → Tie Seat
 seat_tie paper user kind ordinal =
     record { pair = pair_of paper user; value = record { kind = kind; ordinal = ordinal; vacated = false } }
 
--- the seats with one more, behind those of its paper and of papers with lower numbers
+-- the seats with one more, after those of its paper and of papers with lower numbers
 abbrev pub with_seat : Tie Seat → SeatsState → SeatsState
 with_seat s seats =
     filter (λ (t : Tie Seat). nat_le t.pair.paper s.pair.paper) seats ++ s
@@ -46,7 +46,7 @@ vacated t = record { pair = t.pair; value = record { kind = t.value.kind; ordina
 abbrev pub is_seat : ℕ → ℕ → Tie Seat → Bool
 is_seat paper ordinal t = paper == t.pair.paper && ordinal == t.value.ordinal
 
--- the seats, where that one is left
+-- the seats, with that of the user at the paper left
 abbrev pub without_seat : ℕ → ℕ → SeatsState → SeatsState
 without_seat paper ordinal seats = map (λ (t : Tie Seat). if is_seat paper ordinal t then vacated t else t) seats
 
@@ -70,11 +70,11 @@ labels_in seats p = length (ties_of ByPaper p seats)
 abbrev pub told_seat : Tie Seat → SeatTold
 told_seat t = record { ordinal = t.value.ordinal; kind = Some t.value.kind; user = Some t.pair.user }
 
--- whoever was assigned to the paper, by label
+-- the users who were assigned to the paper, by label
 abbrev pub seats_in : SeatsState → ℕ → List SeatTold
 seats_in seats p = map told_seat (ties_of ByPaper p seats)
 
--- the paper's seats that nobody has left, by label: the assigned whose ordinal has no unassigned
+-- the paper's seats that aren't left, by label
 abbrev pub seats_taken : SeatsState → ℕ → List (Tie Seat)
 seats_taken seats p = filter (λ (t : Tie Seat). not t.value.vacated) (ties_of ByPaper p seats)
 
@@ -82,7 +82,7 @@ seats_taken seats p = filter (λ (t : Tie Seat). not t.value.vacated) (ties_of B
 abbrev pub reviewers_in : SeatsState → ℕ → List SeatTold
 reviewers_in seats p = map told_seat (seats_taken seats p)
 
--- the ordinal under which the user reviews the paper, where she does
+-- the ordinal under which the user reviews the paper; `None` if they don't
 abbrev pub ordinal_in : SeatsState → Option ℕ → ℕ → Option ℕ
 ordinal_in seats u p =
     option_map (λ (t : Tie Seat). t.value.ordinal)
@@ -98,14 +98,14 @@ SeatsFit seats (Assigned paper user kind ordinal) =
 SeatsFit seats (Unassigned paper user ordinal) = ordinal_in seats (Some user) paper ≡ Some ordinal
 SeatsFit seats _ = Unit {0}
 
--- no two of these seats are the same user's
+-- no two of these seats are one user's
 abbrev pub AreOfDifferentUsers : List (Tie Seat) → Type 0
 AreOfDifferentUsers [] = Unit {0}
 AreOfDifferentUsers (t ∷ ts) =
     IsFalse (list_any (λ (s : Tie Seat). s.pair.user == t.pair.user) ts) × AreOfDifferentUsers ts
 
--- the seats come of entries that fit: each paper's labels are numbered from 1, and of its seats that nobody has
--- left no two are the same user's
+-- the seats come of entries that fit: each paper's labels are numbered from 1, and of its seats that aren't left no two
+-- are one user's
 pub record SeatsInOrder (seats : SeatsState) : Type 0 where
   pub numbered : (p : ℕ)
       → map (λ (t : Tie Seat). t.value.ordinal) (ties_of ByPaper p seats) ≡ numbers_from 1 (ties_of ByPaper p seats)

@@ -1,4 +1,4 @@
--- What may stand in the fields of a row: ranges of numbers and grammars of bytes, which are the server's own
+-- What the fields of a row may have: ranges of numbers and grammars of bytes, which are the server's own
 -- (docs/STORE.md).
 use Rattle.std.specs.Prelude.{ℕ, Bool, ◌≡◌, ◌≤◌, ◌==◌, ◌&&◌, nat_le, List, [], length, Option, Some, None}
 use Rattle.std.specs.Prelude.{IsTrue, IsFalse, if◌then◌else◌}
@@ -17,6 +17,7 @@ use Rattle.cr_base.specs.Keys.{IsKeyOrNone}
 use Rattle.cr_base.specs.TagTexts.{is_tag}
 use Rattle.cr_base.specs.Texts.{IsName, IsTitle, IsAbstract, IsContent, IsReviewText, IsCommentText}
 
+-- the numbers from the first to the second
 abbrev pub range : ℕ → ℕ → Range
 range low high = record { low = low; high = Some high; gap = None }
 
@@ -60,7 +61,7 @@ review_kind_range = range 1 3
 abbrev pub ordinal_range : Range
 ordinal_range = range 1 26
 
--- the same, and 0 where there is none
+-- the ordinals of labels, and 0 for none
 abbrev pub some_ordinal_range : Range
 some_ordinal_range = range 0 26
 
@@ -72,11 +73,12 @@ grade_range = range 1 5
 abbrev pub decision_range : Range
 decision_range = range 1 2
 
--- submission to discussion, and the response, whose number comes behind those of notification and closed
+-- the numbers of phases that may have a deadline: submission to discussion, and the response, whose number comes after
+-- those of notification and closed
 abbrev pub deadline_phase_range : Range
 deadline_phase_range = record { low = 1; high = Some 7; gap = Some (record { first = 5; last = 6 }) }
 
--- deadlines, and 0 where there is none
+-- deadlines, and 0 for none
 abbrev pub some_deadline_range : Range
 some_deadline_range = range 0 last_deadline
 
@@ -84,18 +86,19 @@ some_deadline_range = range 0 last_deadline
 abbrev pub unused : Range
 unused = range 0 0
 
+-- a shape with these ranges in the first three fields, and these grammars of the two texts
 abbrev pub shape : Range → Range → Range → TextKind → TextKind → Shape
 shape n1 n2 n3 b1 b2 = record { n1 = n1; n2 = n2; n3 = n3; n4 = unused; n5 = unused; b1 = b1; b2 = b2 }
 
--- the same with these numbers in the fourth field
+-- the shape with these numbers in the fourth field
 abbrev pub with_fourth : Range → Shape → Shape
 with_fourth n4 s = record { n1 = s.n1; n2 = s.n2; n3 = s.n3; n4 = n4; n5 = s.n5; b1 = s.b1; b2 = s.b2 }
 
--- and in the fifth
+-- the shape with these numbers in the fifth field
 abbrev pub with_fifth : Range → Shape → Shape
 with_fifth n5 s = record { n1 = s.n1; n2 = s.n2; n3 = s.n3; n4 = s.n4; n5 = n5; b1 = s.b1; b2 = s.b2 }
 
--- a number is no more than the greatest, where there is one
+-- the number is at most the greatest one, if there is one
 abbrev pub IsAtMost : Option ℕ → ℕ → Type 0
 IsAtMost None n = Unit {0}
 IsAtMost (Some high) n = n ≤ high
@@ -104,14 +107,16 @@ IsAtMost (Some high) n = n ≤ high
 abbrev pub IsWithin : Range → ℕ → Type 0
 IsWithin r n = (r.low ≤ n) × IsAtMost r.high n
 
+-- the number is in the gap
 abbrev pub is_in_gap : Gap → ℕ → Bool
 is_in_gap gap n = nat_le gap.first n && nat_le n gap.last
 
--- and it isn't in the gap, where there is one
+-- the number is in the range, and not in the gap, if there is one
 abbrev pub IsWithinBut : Option Gap → Range → ℕ → Type 0
 IsWithinBut None r n = IsWithin r n
 IsWithinBut (Some gap) r n = IsWithin r n × IsFalse (is_in_gap gap n)
 
+-- the number is in the range
 abbrev pub InRange : Range → ℕ → Type 0
 InRange r n = IsWithinBut r.gap r n
 
@@ -127,7 +132,7 @@ HasText ReviewText bytes = IsReviewText bytes
 HasText CommentText bytes = IsCommentText bytes
 HasText Tag bytes = IsTrue (is_tag bytes)
 
--- the key that a row's fields spell: none where the number is 0
+-- the key that a row's fields spell; `None` if the number is 0
 abbrev pub key_in : ℕ → List ℕ → Option RetryKey
 key_in num mark = if num == 0 then None else Some (record { number = num; mark = mark })
 
@@ -135,6 +140,7 @@ key_in num mark = if num == 0 then None else Some (record { number = num; mark =
 abbrev pub stamp_in : Row → Stamp
 stamp_in r = record { maker = r.maker; at = r.at; key = key_in r.num r.mark }
 
+-- a stamp is within its bounds
 pub record FitsStamp (stamp : Stamp) : Type 0 where
   pub maker : InRange user_range stamp.maker
   pub at : IsMoment stamp.at

@@ -4,7 +4,7 @@ use Rattle.std.proofs.Common.{sym, ap, ◌∙◌, arith}
 use Rattle.std.proofs.lemmas.List.{length-take-le, take-append-drop}
 use Rattle.cr_base.specs.declared.texts.Short.TheInside.{Inside}
 
--- a text as it is kept: zeros stand behind it
+-- a text as it is kept: with zeros after it
 abbrev pub kept_back : List ℕ → Inside
 kept_back v = record { bytes = v ++ replicate (34 - length v) 0; len = length v }
 

@@ -1,5 +1,5 @@
--- What rules and answers read, over a record of facts and one of what is shown of a paper: filled by a view they make
--- `judge` and `answer` of cr_policy, filled by the tables they make `judge_by_role` and `answer_by_role`.
+-- What rules and answers read: a record of facts (Facts) and one of what is given of each paper (Shown). With those of
+-- a view they make `judge` and `answer` of cr_policy, with those of the tables `judge_by_role` and `answer_by_role`.
 use Rattle.std.specs.Prelude.{ℕ, Bool, not, ◌||◌, ◌&&◌, ◌==◌, List, Option, Some, None, is_some, find, map}
 use Rattle.std.specs.Prelude.{[], if◌then◌else◌, unwrap_or}
 use Rattle.std.specs.Option.{option_map, option_and_then}
@@ -35,11 +35,10 @@ use Rattle.cr_base.specs.Talk.{comments_in, comment_as_told, own_comments_in, re
 use Rattle.cr_base.specs.Words.{is_member}
 use Rattle.cr_base.specs.Ties.{authors_in, is_author_in, is_conflicted_in, bid_in, bids_in}
 
--- what rules and drawn numbers read: how the caller stands, to a paper if one is named;
--- who has registered; the papers;
--- how many of them are the caller's, and how many bytes she has uploaded; her last bid on each, the ordinal
--- under which she reviews it, and the forms that she has written of it, in order; how many comments she has
--- written; which papers are accepted; until when what a phase opens may be done; and whether the response was opened
+-- what rules and drawn numbers read: the caller's standing, at a paper if one is named; the accounts; the papers; how
+-- many of them the caller submitted, and how many bytes they have uploaded; their last bid on each, the ordinal under
+-- which they review it, and the forms that they have written of it, in order; how many comments they have written;
+-- which papers are accepted; the deadline of the current phase; and whether the response was opened
 pub record Facts : Type 0 where
   pub standing : Option ℕ → Standing
   pub accounts : List AccountLine
@@ -54,13 +53,13 @@ pub record Facts : Type 0 where
   pub deadline : Phase → Option ℕ
   pub had_response : Bool
 
--- what pages, contents and some rules tell of a paper beside the standing: its texts, its authors, who is declared in
--- conflict with it, and whom its authors declared, both by user number; what was uploaded to it, in order; whether it
--- is withdrawn; the last bids on it, by user number; its reviewers, by label, under which ordinal a user reviews it,
--- how many labels were given, and to whom each; whether a user is invited to it; of each label the last form, the last
--- before the response, the forms that the committee discusses, and whether there is one; the comments on it, by number;
--- what its authors responded; its tags that are for a user, who may be a chair, by their bytes; and the last decision
--- on it
+-- what pages, contents and some rules read of a paper besides the standing: its texts, its authors, who is declared in
+-- conflict with it, and whom its authors declared, both by number; what was uploaded to it, in order; whether it is
+-- withdrawn; the last bids on it, by number; its reviewers, by label, under which ordinal a user reviews it, how many
+-- labels were given, and to whom each; whether a user is invited to it; of each label the last form, the last before
+-- the response, the forms that the committee discusses, and whether there is one; the comments on it, by number; what
+-- its authors responded; the tags that are on and are for a user, who may be a chair, by their bytes; and the last
+-- decision on it
 pub record Shown : Type 0 where
   pub title : ℕ → Option (List ℕ)
   pub abstract_ : ℕ → Option (List ℕ)
@@ -88,7 +87,7 @@ pub record Shown : Type 0 where
 abbrev pub is_external_in : Tables → Option ℕ → ℕ → Bool
 is_external_in t u p = not (is_member (role_in t.accounts u)) && is_invited_in t.invites u p
 
--- how a user stands, by the tables
+-- a user's standing, by the tables
 abbrev pub standing_at : Tables → Option ℕ → Option ℕ → Standing
 standing_at t u paper = record {
   phase = t.stage.phase;
@@ -100,7 +99,7 @@ standing_at t u paper = record {
   external = at_some (is_external_in t u) paper;
 }
 
--- the forms that the user has written of the paper: those under her label
+-- the forms that the user has written of the paper: those under the user's label
 abbrev pub own_forms_in : Tables → Option ℕ → ℕ → List FormTold
 own_forms_in t u p = flat_map (λ (o : ℕ). map written_told (forms_in t.reviews p o)) (listed (ordinal_in t.seats u p))
 
@@ -125,6 +124,7 @@ facts_of_tables t u = record {
   had_response = t.stage.had_response;
 }
 
+-- what pages, contents and some rules read of a paper, by the tables
 abbrev pub shown_in_tables : Tables → Shown
 shown_in_tables t = record {
   title = title_at t.papers;
@@ -154,6 +154,7 @@ shown_in_tables t = record {
 abbrev pub number_in : List AccountLine → List ℕ → Option ℕ
 number_in accounts name = option_map (λ a. a.user) (find (λ a. bytes_eq a.name name) accounts)
 
+-- the name of a user; `None` if there is no such account
 abbrev pub name_in : List AccountLine → ℕ → Option (List ℕ)
 name_in accounts user = option_map (λ a. a.name) (find (λ a. a.user == user) accounts)
 
@@ -163,7 +164,7 @@ name_told_by accounts (Named user role) = unwrap_or (name_in accounts user) []
 name_told_by accounts (Dismissed user) = unwrap_or (name_in accounts user) []
 name_told_by accounts _ = []
 
--- the user of a name that may be none, and the role of a user who may be nobody
+-- the user with this name; `None` if there is none
 abbrev pub user_among : List AccountLine → Option (List ℕ) → Option ℕ
 user_among accounts name = option_and_then (number_in accounts) name
 
@@ -171,10 +172,11 @@ user_among accounts name = option_and_then (number_in accounts) name
 abbrev pub users_among : List AccountLine → List (Option (List ℕ)) → List (Option ℕ)
 users_among accounts names = map (user_among accounts) names
 
+-- the role of a user; `None` if there is none
 abbrev pub role_among : List AccountLine → Option ℕ → Option Role
 role_among accounts user = option_and_then (λ v. option_map (λ a. a.role) (find (λ a. a.user == v) accounts)) user
 
--- the user is there: she has registered
+-- the user has registered
 abbrev pub is_there : List AccountLine → ℕ → Bool
 is_there accounts user = is_some (role_among accounts (Some user))
 
@@ -186,10 +188,11 @@ names_in accounts users = flat_map (λ user. listed (name_in accounts user)) use
 abbrev pub has_paper : Facts → Option ℕ → Bool
 has_paper facts paper = at_some (λ p. list_any (λ q. q == p) facts.papers) paper
 
--- the paper named, and the user named, if she has registered, as the rules ask of them
+-- the paper named, as the rules ask of it
 abbrev pub paper_named : Facts → Shown → Option ℕ → NamedPaper
 paper_named facts shown paper = record { there = has_paper facts paper; withdrawn = at_some shown.withdrawn paper }
 
+-- the user named, as the rules ask of them; `None` if there is no such user
 abbrev pub target_named : Facts → Shown → Option ℕ → Option ℕ → Option ℕ → Option Target
 target_named facts shown caller paper user =
     let wrote = at_some (λ p. list_any (is_number user) (shown.authors p)) paper in
@@ -207,10 +210,10 @@ target_named facts shown caller paper user =
     })
     (role_among facts.accounts user)
 
--- the decision on a paper: to accept it, where it is accepted, as everyone is told; else the last one that is shown
+-- the decision on a paper: to accept it, if it is accepted, as everyone is told; else the last one that is given
 abbrev pub decision_by : Facts → Shown → ℕ → Option Decision
 decision_by facts shown p = if facts.accepted p then Some Accept else shown.decision p
 
--- at that moment it is too late for what the phase opens: it has a deadline, and the moment is past it
+-- at this timestamp it is too late for what the phase opens: it has a deadline, and the timestamp is past it
 abbrev pub is_late : Facts → ℕ → Bool
 is_late facts at = is_past (facts.deadline (facts.standing None).phase) at

@@ -18,7 +18,7 @@ pub record StageState : Type 0 where
   pub deadlines : Deadlines
   pub had_response : Bool
 
--- where a conference starts
+-- the stage at which a conference begins
 abbrev pub first_stage : StageState
 first_stage = record { phase = Setup; mode = Blind; deadlines = no_deadlines; had_response = false }
 
@@ -31,6 +31,6 @@ stage_after stage (DeadlineSet phase until) =
     record stage { deadlines = with_deadline phase until stage.deadlines }
 stage_after stage _ = stage
 
--- the current phase has a deadline, and the moment is past it
+-- the current phase has a deadline, and the timestamp is past it
 abbrev pub is_late_in : StageState → ℕ → Bool
 is_late_in stage at = is_past (deadline_in stage.deadlines stage.phase) at

@@ -1,9 +1,8 @@
--- Steps: how many stored records were read, one for each. Who counts sees a number (form: a counter in the code that
--- is analysed, as Knuth counts in The Art of Computer Programming, volume 1, section 1.2.10); who counts nothing,
--- nothing.
+-- Steps: how many stored records were read, one for each. It is a counter in the code that is analysed, as Knuth counts
+-- in The Art of Computer Programming, volume 1, section 1.2.10; `None` if nothing is counted.
 use Rattle.std.specs.Prelude.{ℕ, ◌≡◌, ◌≤◌, ◌+◌, ◌-◌, ◌*◌, ◌^◌, Option, Some, None, ⊤}
 
--- so many more
+-- this many steps were taken, if they are counted
 abbrev pub Takes : ℕ → Option ℕ → Option ℕ → Type 0
 Takes count None None = ⊤
 Takes count None (Some n) = ⊥
@@ -17,7 +16,7 @@ TakesAtMost count None (Some n) = ⊥
 TakesAtMost count (Some m) None = ⊥
 TakesAtMost count (Some m) (Some n) = (h : m ≤ n) × (n ≤ m + count)
 
--- so many more as halvings take a list of this length down to nothing
+-- as many steps were taken as halvings take a list of this length down to nothing, if they are counted
 abbrev pub Halves : ℕ → Option ℕ → Option ℕ → Type 0
 Halves length None None = ⊤
 Halves length None (Some n) = ⊥

@@ -2,7 +2,7 @@
 use Rattle.std.specs.Prelude.{ℕ, Bool, false, not, ◌&&◌, ◌==◌, List, [], ◌∷◌, drop, if◌then◌else◌}
 use Rattle.cr_base.specs.Texts.{is_name}
 
--- a `~` stands first
+-- the text begins with `~`
 abbrev pub is_tilded : List ℕ → Bool
 is_tilded [] = false
 is_tilded (b ∷ bytes) = b == 126
@@ -11,7 +11,7 @@ is_tilded (b ∷ bytes) = b == 126
 abbrev pub is_for_chairs : List ℕ → Bool
 is_for_chairs text = is_tilded text && is_tilded (drop 1 text)
 
--- one of them does: the tag is private to whoever sets it
+-- the tag begins with one `~`: it is private to the user who sets it
 abbrev pub is_private : List ℕ → Bool
 is_private text = is_tilded text && not (is_tilded (drop 1 text))
 
@@ -19,7 +19,7 @@ is_private text = is_tilded text && not (is_tilded (drop 1 text))
 abbrev pub is_for_all : List ℕ → Bool
 is_for_all text = not (is_tilded text)
 
--- what stands behind them
+-- the tag without the `~` before it
 abbrev pub tag_word : List ℕ → List ℕ
 tag_word text = if is_for_chairs text then drop 2 text else (if is_tilded text then drop 1 text else text)
 

@@ -16,48 +16,50 @@ use Rattle.cr_base.specs.TagTexts.{is_private, is_for_chairs}
 
 -- ---- one tag
 
--- who owns a tag that this user sets: she does, where it is private, and else nobody
+-- the owner of a tag that this user sets: the user, if it is private; else none
 abbrev pub tag_owner : List ℕ → ℕ → Option ℕ
 tag_owner tag maker = if is_private tag then Some maker else None
 
--- an owner's number, and 0 where nobody owns the tag
+-- an owner's number; 0 if the tag has none
 abbrev pub owner_number : Option ℕ → ℕ
 owner_number None = 0
 owner_number (Some user) = user
 
--- a tag comes before another: by its bytes, and the same tags by their owners
+-- the first text comes before the second, by its bytes
 abbrev pub bytes_before : List ℕ → List ℕ → Bool
 bytes_before x y = is_lt (slice_cmp nat_cmp x y)
 
+-- the first tag comes before the second: by its bytes, and of equal ones by their owners
 abbrev pub tag_before : SetTag → SetTag → Bool
 tag_before x y =
     bytes_before x.tag y.tag || (bytes_eq x.tag y.tag && nat_lt (owner_number x.owner) (owner_number y.owner))
 
--- the same, as a comparison answers it
+-- how the first tag compares to the second, as `tag_before` orders them
 abbrev pub tag_order : SetTag → SetTag → Ordering
 tag_order x y = ordering_then (slice_cmp nat_cmp x.tag y.tag) (nat_cmp (owner_number x.owner) (owner_number y.owner))
 
 -- ---- the tags of one paper that are on
 
--- each comes before all those behind it, so none is there twice
+-- each tag comes before all later ones, so none is there twice
 abbrev pub IsSortedTags : List SetTag → Type 0
 IsSortedTags ts = IsSorted tag_before ts
 
--- they stand in their order; those with this one on, in its place, or off
+-- the tags, in their order, with this one on, or off
 abbrev pub with_tag : Bool → SetTag → List SetTag → List SetTag
 with_tag on t ts =
     filter (λ (s : SetTag). tag_before s t) ts ++ (if on then t ∷ [] else [])
     ++ filter (λ (s : SetTag). tag_before t s) ts
 
--- the tag is for this reader: everyone's; her own private one; or a chair's, where she is one
+-- the tag's owner, if it has one, is the reader
 abbrev pub is_owner : Option ℕ → Option ℕ → Bool
 is_owner u None = false
 is_owner u (Some owner) = is_number u owner
 
+-- the tag is for this reader: the committee's, the reader's own private one, or a chairs', if the reader is one
 abbrev pub is_tag_for : Option ℕ → Bool → SetTag → Bool
 is_tag_for u chair t = if is_for_chairs t.tag then chair else (if is_private t.tag then is_owner u t.owner else true)
 
--- the tags that are for her, by their bytes
+-- the tags that are for this reader, by their bytes
 abbrev pub tags_for : Option ℕ → Bool → List SetTag → List (List ℕ)
 tags_for u chair ts = map (λ (t : SetTag). t.tag) (filter (is_tag_for u chair) ts)
 
@@ -71,14 +73,15 @@ TagsState = List (Filed SetTag)
 abbrev pub no_tags : TagsState
 no_tags = []
 
--- one stands before the other: by their papers, and those of one paper by their tags
+-- the first comes before the second: by their papers, and of one paper by their tags
 abbrev pub stands_before : Filed SetTag → Filed SetTag → Bool
 stands_before x y = nat_lt x.paper y.paper || (x.paper == y.paper && tag_before x.value y.value)
 
+-- how the first compares to the second, as `stands_before` orders them
 abbrev pub filed_order : Filed SetTag → Filed SetTag → Ordering
 filed_order x y = ordering_then (nat_cmp x.paper y.paper) (tag_order x.value y.value)
 
--- each stands before all those behind it
+-- each comes before all later ones
 abbrev pub IsSortedState : TagsState → Type 0
 IsSortedState tags = IsSorted stands_before tags
 

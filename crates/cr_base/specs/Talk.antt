@@ -12,8 +12,8 @@ use Rattle.cr_base.specs.Papers.{with_more}
 
 -- ---- the state
 
--- the comments: paper by paper, and those of a paper by number; how many each user has written: her number is the
--- index, and who is past the end has written none; and what authors responded, paper by paper
+-- the comments, paper by paper, and those of a paper by number; how many each user has written, with the user's number
+-- as index: a user past the end has written none; and what authors responded, paper by paper
 pub record TalkState : Type 0 where
   pub comments : List (Filed Comment)
   pub written : List ℕ
@@ -48,7 +48,7 @@ abbrev pub own_comments_in : TalkState → Option ℕ → ℕ
 own_comments_in talk None = 0
 own_comments_in talk (Some user) = slice_index talk.written user
 
--- what the paper's authors responded, of whom one does, once
+-- what the paper's authors responded: one of them, once
 abbrev pub response_in : TalkState → ℕ → Option (List ℕ)
 response_in talk p = last (filed_of p talk.responses)
 

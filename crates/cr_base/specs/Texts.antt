@@ -17,7 +17,7 @@ pub record IsName (text : List ℕ) : Type 0 where
   pub few : length text ≤ 32
   pub bytes : IsTrue (list_all is_name_byte text)
 
--- the same as a test
+-- `IsName` as a test
 abbrev pub is_name : List ℕ → Bool
 is_name text = nat_le 1 (length text) && nat_le (length text) 32 && list_all is_name_byte text
 
@@ -34,7 +34,7 @@ pub record IsTitle (text : List ℕ) : Type 0 where
   pub bytes : IsTrue (list_all is_title_byte text)
   pub utf8 : IsTrue (is_utf8 text)
 
--- the same as a test
+-- `IsTitle` as a test
 abbrev pub is_title : List ℕ → Bool
 is_title text = nat_le 1 (length text) && nat_le (length text) 200 && list_all is_title_byte text && is_utf8 text
 
@@ -45,7 +45,7 @@ pub record IsAbstract (text : List ℕ) : Type 0 where
   pub few : length text ≤ 5000
   pub utf8 : IsTrue (is_utf8 text)
 
--- the same as a test
+-- `IsAbstract` as a test
 abbrev pub is_abstract : List ℕ → Bool
 is_abstract text = nat_le (length text) 5000 && is_utf8 text
 
@@ -62,10 +62,11 @@ pub record IsCommentText (text : List ℕ) : Type 0 where
   pub few : length text ≤ 10000
   pub utf8 : IsTrue (is_utf8 text)
 
--- the same as tests
+-- `IsReviewText` as a test
 abbrev pub is_review_text : List ℕ → Bool
 is_review_text text = nat_le (length text) 20000 && is_utf8 text
 
+-- `IsCommentText` as a test
 abbrev pub is_comment_text : List ℕ → Bool
 is_comment_text text = nat_le 1 (length text) && nat_le (length text) 10000 && is_utf8 text
 

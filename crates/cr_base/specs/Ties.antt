@@ -19,9 +19,9 @@ use Rattle.cr_base.specs.Pairs.{with_tie, without_pair, has_pair, tie_value, tie
 abbrev pub BareTies : Type 0
 BareTies = List (Tie (Unit {0}))
 
--- papers and their authors, in the order in which they were told; in ascending order, papers and the users in declared
--- conflict with them, papers and those whom an author named in one, and papers and the users who bid on them with
--- their last bids, each kept plus 20
+-- papers and their authors, in the order in which they were told; and, in ascending order, papers and the users
+-- declared in conflict with them, papers and the users whom an author declared, and papers and the users who bid on
+-- them with their last bids, each kept plus 20
 pub record TiesState : Type 0 where
   pub authors : BareTies
   pub conflicts : BareTies
@@ -36,6 +36,7 @@ no_ties = record { authors = []; conflicts = []; declared = []; bids = [] }
 abbrev pub pair_of : ℕ → ℕ → Pair
 pair_of paper user = record { paper = paper; user = user }
 
+-- a tie of a paper and a user with nothing kept of it
 abbrev pub bare_tie : ℕ → ℕ → Tie (Unit {0})
 bare_tie paper user = record { pair = pair_of paper user; value = tt }
 
@@ -99,7 +100,7 @@ bids_in ties p = map (λ (t : Tie ℕ). record { user = t.pair.user; value = t.v
 abbrev pub are_before : ℕ → BareTies → Bool
 are_before paper ties = list_all (λ (t : Tie (Unit {0})). nat_lt t.pair.paper paper) ties
 
--- and the papers of all these have no higher ones
+-- the papers of these ties have numbers up to this one
 abbrev pub are_up_to : ℕ → BareTies → Bool
 are_up_to paper ties = list_all (λ (t : Tie (Unit {0})). nat_le t.pair.paper paper) ties
 
@@ -112,8 +113,8 @@ pub record AreWithin (n : ℕ) (ties : TiesState) : Type 0 where
   pub authors : IsTrue (are_within n ties.authors)
   pub conflicts : IsTrue (are_within n ties.conflicts)
 
--- an entry fits: the paper that it makes comes behind all that have authors; the co-author's is the last of these,
--- and she is none of its authors
+-- the entry may come next: a paper that it submits comes after all that have authors; a co-author's paper is the last
+-- of these, and the user is no author of it
 abbrev pub TiesFit : TiesState → Entry → Type 0
 TiesFit ties (Submitted paper title abstract) = IsTrue (are_before paper ties.authors)
 TiesFit ties (Coauthor paper user) =

@@ -160,7 +160,7 @@ decision_number Reject = 2
 abbrev pub decision_numbered : ℕ → Option Decision
 decision_numbered n = find (λ decision. n == decision_number decision) decisions
 
--- it is to accept the paper, where there is one
+-- the decision, if there is one, is to accept the paper
 abbrev pub is_accept : Option Decision → Bool
 is_accept None = false
 is_accept (Some Accept) = true
@@ -182,7 +182,7 @@ named_roles = Member ∷ Chair ∷ []
 abbrev pub role_named : List ℕ → Option Role
 role_named name = find (λ role. bytes_eq name (role_name role)) named_roles
 
--- a role by its number in rows; a role is at least another where its number is
+-- a role by its number in rows; a role is at least another if its number is
 abbrev pub role_number : Role → ℕ
 role_number Account = 0
 role_number Member = 1
@@ -198,6 +198,7 @@ is_member Account = false
 is_member Member = true
 is_member Chair = true
 
+-- the role is a chair's
 abbrev pub is_chair : Role → Bool
 is_chair Account = false
 is_chair Member = false

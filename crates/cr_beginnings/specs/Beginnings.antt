@@ -27,7 +27,7 @@ use Rattle.cr_policy.specs.Legal.{IsNewKey, IsMoveAllowed, Legal, Move, moved}
 
 -- ---- groups
 
--- the entries of one command, or of one bulk: each but the last is told to have another behind it
+-- the entries of one command, or of one bulk: each but the last has the mark that another follows
 abbrev pub IsGroup : History → Type 0
 IsGroup [] = ⊥
 IsGroup (e ∷ []) = IsFalse e.more
@@ -35,16 +35,16 @@ IsGroup (e ∷ next ∷ after) = IsTrue e.more × IsGroup (next ∷ after)
 
 -- ---- who gave it
 
--- nobody registers, and each other command is its maker's
+-- the caller of the command that adds the entry: unauthenticated of a registration, else the entry's maker
 abbrev pub giver_told : ℕ → Entry → Option ℕ
 giver_told maker (Registered user name digest) = None
 giver_told maker e = Some maker
 
--- nobody, or a user who has registered
+-- the caller is unauthenticated, or a user who has registered
 abbrev pub is_known : Tables → Option ℕ → Bool
 is_known t caller = option_map_or (is_there (lines_of t.accounts)) caller true
 
--- whoever gives it may have given it this number: nobody gives any
+-- this caller's command may have this number: an unauthenticated caller's has none
 abbrev pub may_have_key : Option ℕ → Option RetryKey → Bool
 may_have_key None key = is_none key
 may_have_key (Some user) key = true
@@ -62,7 +62,7 @@ pub record IsDrawn (t : Tables) (stamp : Stamp) (e : Entry) : Type 0 where
 
 -- ---- how many entries a group may have
 
--- a row of this user's bulk may draw such an entry: it changes seats or tags, or a conflict that isn't her own
+-- a row of this user's bulk may draw such an entry: it changes seats or tags, or a conflict that isn't the user's own
 abbrev pub is_of_row : ℕ → Entry → Bool
 is_of_row maker (Conflict paper user on) = not (user == maker)
 is_of_row maker (Assigned paper user kind ordinal) = true
@@ -74,10 +74,11 @@ is_of_row maker e = false
 abbrev pub caller_judged : Tables → ℕ → Result (Unit {0}) Rule
 caller_judged t user = judged (bulk_checks (standing_at t (Some user) None)) tt
 
+-- the user may send a bulk, by the tables
 abbrev pub may_bulk : Tables → ℕ → Bool
 may_bulk t user = is_there (lines_of t.accounts) user && is_ok (caller_judged t user)
 
--- nobody has registered yet
+-- no user has registered yet
 abbrev pub is_first_user : Tables → Bool
 is_first_user t = length t.accounts == 0
 
@@ -85,15 +86,15 @@ is_first_user t = length t.accounts == 0
 abbrev pub lesser : ℕ → ℕ → ℕ
 lesser m n = if nat_le m n then m else n
 
--- The most entries that a group may have which begins with this one. The first registration has a role behind it. A
--- submission has at most 19 co-authors behind it, who are different users, and none of them its maker: so it has no
--- more entries than there are users. A bulk has 512 rows at most, and all else stands alone.
+-- The most entries of a group that begins with this one. The first registration is followed by a role. A submission is
+-- followed by at most 19 co-authors, who are different users and not its maker: it has at most as many entries as there
+-- are users. A bulk has at most 512 rows, and every other entry is all of its group.
 abbrev pub most_entries : Tables → ℕ → Entry → ℕ
 most_entries t maker (Registered user name digest) = if is_first_user t then 2 else 1
 most_entries t maker (Submitted paper title abstract) = lesser 20 (length t.accounts)
 most_entries t maker e = if is_of_row maker e && may_bulk t maker then 512 else 1
 
--- and the fewest: only the first registration never stands alone
+-- the fewest entries of a group that begins with this one: 2 of the first registration, else 1
 abbrev pub fewest_entries : Tables → Entry → ℕ
 fewest_entries t (Registered user name digest) = if is_first_user t then 2 else 1
 fewest_entries t e = 1
@@ -117,39 +118,40 @@ pub record IsCoauthor (t : Tables) (maker paper : ℕ) (behind : History) (e : E
   pub there : is_there (lines_of t.accounts) user ≡ true
   pub new : list_any (λ v. v == user) (maker ∷ all_told coauthor_told behind) ≡ false
 
--- what a row of the maker's bulk draws, by the tables behind the rows before it
+-- a row of the maker's bulk draws the entry, by the tables after the rows before it
 abbrev pub IsRowDrawn : Tables → Stamp → Entry → Type 0
 IsRowDrawn t stamp e = (is_of_row stamp.maker e ≡ true) × IsDrawn t stamp e
 
--- the first of a group: its command's giver is known, and may have given it its number, which is new; the command
--- draws it
+-- the entry may be the first of a group: its command's caller is registered or may be unauthenticated, may give its
+-- number, which is new, and the command draws the entry
 pub record IsFirst (H : History) (s : Stamped) : Type 0 where
   pub giver : is_known (tables_of H) (giver_told s.stamp.maker s.entry) ≡ true
   pub key : may_have_key (giver_told s.stamp.maker s.entry) s.stamp.key ≡ true
   pub new : IsNewKey H (Some s.stamp.maker) s.stamp.key
   pub drawn : IsDrawn (tables_of H) s.stamp s.entry
 
--- one behind a group's first and others: of the first registration the role, of a submission a co-author, and of a bulk
--- what its next row draws, behind the rows before it
+-- the entry may follow a group's first and others: after the first registration it is the role, after a submission a
+-- co-author, and in a bulk what its next row draws, after the rows before it
 abbrev pub IsBehind : Tables → Stamp → Entry → History → Entry → Type 0
 IsBehind t stamp (Registered user name digest) behind e = e ≡ Named user Chair
 IsBehind t stamp (Submitted paper title abstract) behind e = IsCoauthor t stamp.maker paper behind e
 IsBehind t stamp first behind e = IsRowDrawn (tables_from t (stamped stamp true first ∷ behind)) stamp e
 
--- the first of a group, if its command draws it
+-- the entry may be the first of a group, if its command draws it
 pub record MayBegin (t : Tables) (H : History) (s : Stamped) : Type 0 where
   pub giver : is_known t (giver_told s.stamp.maker s.entry) ≡ true
   pub key : may_have_key (giver_told s.stamp.maker s.entry) s.stamp.key ≡ true
   pub new : IsNewKey H (Some s.stamp.maker) s.stamp.key
   pub count : may_count t s 1 s.more ≡ true
 
--- such one, in its place, of the same command or bulk
+-- an entry after the first, in its place, with the stamp of the first
 abbrev pub IsNext : Tables → Stamped → History → Stamped → Type 0
 IsNext t first behind s =
     (s.stamp ≡ first.stamp)
     × IsBehind t first.stamp first.entry behind s.entry
     × (may_count t first (length behind + 2) s.more ≡ true)
 
+-- the entry may follow what its group has so far: it is the first, or one after the first
 abbrev pub InTurn : History → History → Stamped → Type 0
 InTurn H [] s = IsFirst H s × (may_count (tables_of H) s 1 s.more ≡ true)
 InTurn H (first ∷ behind) s = IsNext (tables_of H) first behind s
@@ -158,13 +160,13 @@ InTurn H (first ∷ behind) s = IsNext (tables_of H) first behind s
 abbrev pub HasMore : Stamped → Type 0
 HasMore s = IsTrue s.more
 
--- behind these entries of one group, of which another follows each, may stand this one
+-- the entry may follow these entries of one group, each of which has the mark that another follows
 pub record IsDue (H begun : History) (s : Stamped) : Type 0 where
   pub unfinished : AllByRecursion HasMore begun
   pub bounded : IsBoundedEntry s
   pub turn : InTurn H begun s
 
--- each of the entries, behind those before it
+-- each of the entries is due after those before it
 abbrev pub AreDue : History → History → History → Type 0
 AreDue H before [] = Unit {0}
 AreDue H before (s ∷ after) = IsDue H before s × AreDue H (before ++ s ∷ []) after
@@ -187,5 +189,6 @@ pub record BeginningsExact (H : History) : Type 0 where
   pub adds : (es : History) (last : Stamped) → AreDue H [] (es ++ last ∷ []) → last.more ≡ false
       → (move : Move) × IsMoveAllowed H move × (moved H move ≡ H ++ (es ++ last ∷ []))
 
+-- Beginnings: BeginningsExact holds on every legal history
 abbrev pub Beginnings : Type 0
 Beginnings = (H : History) → Legal H → BeginningsExact H

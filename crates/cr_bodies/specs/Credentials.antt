@@ -16,12 +16,12 @@ credentials name secret =
 unfoldable pub token_of : List ℕ → Option Credentials
 token_of token = credentials (before_first (λ b. b == 46) token) (after_first (λ b. b == 46) token)
 
--- the bytes behind the spaces at the front
+-- the bytes after the spaces at the front
 abbrev pub after_spaces : List ℕ → List ℕ
 after_spaces [] = []
 after_spaces (b ∷ rest) = if b == 32 then after_spaces rest else b ∷ rest
 
--- the scheme, in any case, is what stands in front of the first space
+-- the credentials that the field's value tells: the scheme, in any case, is what comes before the first space
 abbrev pub credentials_of : List ℕ → Option Credentials
 credentials_of value =
     if str_eq_ignore_ascii_case (before_first (λ b. b == 32) value) (codes "Bearer")

@@ -33,6 +33,7 @@ admits Abstract text = is_abstract text
 admits ReviewText text = is_review_text text
 admits CommentText text = is_comment_text text
 
+-- the text is of this grammar
 abbrev pub IsOf : Grammar → List ℕ → Type 0
 IsOf Name text = IsName text
 IsOf Secret text = IsTrue (is_secret text)
@@ -53,15 +54,19 @@ tested_under grammar key d = text_under key d >>= passing (admits grammar)
 abbrev pub name_under : List ℕ → Data → Option (List ℕ)
 name_under key d = tested_under Name key d
 
+-- the title under a key
 abbrev pub title_under : List ℕ → Data → Option (List ℕ)
 title_under key d = tested_under Title key d
 
+-- the abstract under a key
 abbrev pub abstract_under : List ℕ → Data → Option (List ℕ)
 abstract_under key d = tested_under Abstract key d
 
+-- the text of a form under a key
 abbrev pub review_text_under : List ℕ → Data → Option (List ℕ)
 review_text_under key d = tested_under ReviewText key d
 
+-- the text of a comment or a response under a key
 abbrev pub comment_under : List ℕ → Data → Option (List ℕ)
 comment_under key d = tested_under CommentText key d
 
@@ -110,19 +115,22 @@ bid_under key d = integer_under key d >>= bid_of_value
 abbrev pub grade_under : List ℕ → Data → Option ℕ
 grade_under key d = integer_under key d >>= grade_of_value
 
--- the phase, the mode, the kind of assignment, the decision, and the role that somebody may be named
--- to, whose word stands under a key
+-- the phase whose word is under a key
 abbrev pub phase_under : List ℕ → Data → Option Phase
 phase_under key d = text_under key d >>= phase_named
 
+-- the mode whose word is under a key
 abbrev pub mode_under : List ℕ → Data → Option Mode
 mode_under key d = text_under key d >>= mode_named
 
+-- the kind of reviewer whose word is under a key
 abbrev pub kind_under : List ℕ → Data → Option Kind
 kind_under key d = text_under key d >>= review_kind_named
 
+-- the decision whose word is under a key
 abbrev pub decision_under : List ℕ → Data → Option Decision
 decision_under key d = text_under key d >>= decision_named
 
+-- the role whose word is under a key, of those to which a user may be appointed
 abbrev pub role_under : List ℕ → Data → Option Role
 role_under key d = text_under key d >>= role_named

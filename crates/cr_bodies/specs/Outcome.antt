@@ -8,7 +8,7 @@ abbrev pub Tells : {A : Type 0} → Result A DecodeError → Option A → Type 0
 Tells (Ok x) there = there ≡ Some x
 Tells (Err e) there = (e ≡ Malformed) × (there ≡ None)
 
--- the same, where the value is seen by a function
+-- the result is what is told, if this function gives its value; or nothing is told, and it is malformed
 abbrev pub TellsSeen : {X A : Type 0} → (X → A) → Result X DecodeError → Option A → Type 0
 TellsSeen see (Ok x) there = there ≡ Some (see x)
 TellsSeen see (Err e) there = (e ≡ Malformed) × (there ≡ None)

@@ -15,7 +15,7 @@ use Rattle.cr_bodies.specs.Field.{◌>>=◌, phase_under}
 abbrev pub if_may_have : Phase → Option Phase
 if_may_have phase = if may_have_deadline phase then Some phase else None
 
--- the phase whose word stands under a key, where it may have one
+-- the phase whose word is under a key, if it may have a deadline
 abbrev pub deadline_phase_under : List ℕ → Data → Option Phase
 deadline_phase_under key d = phase_under key d >>= if_may_have
 

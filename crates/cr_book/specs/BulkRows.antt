@@ -1,4 +1,4 @@
--- The rows of a file, by the tables behind those before them.
+-- The rows of a file, by the tables after the rows before them.
 use Rattle.std.specs.Prelude.{Some, Result}
 use Rattle.cr_base.specs.declared.bulk.BulkRow.{BulkRow}
 use Rattle.cr_base.specs.declared.entry.Stamp.{Stamp}
@@ -9,7 +9,7 @@ use Rattle.cr_base.specs.History.{History}
 use Rattle.cr_base.specs.Sources.{facts_of_tables, shown_in_tables}
 use Rattle.cr_base.specs.Tables.{Tables, tables_from}
 
--- what a row comes to behind the entries of those before it
+-- the judgement of a row after the entries of those before it
 abbrev pub row_judged_behind : Tables → History → Stamp → BulkRow → Result Drawn Rule
 row_judged_behind t earlier stamp row =
     let s = tables_from t earlier in

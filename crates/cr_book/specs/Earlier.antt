@@ -15,12 +15,12 @@ use Rattle.cr_log.specs.Seen.{SeenKept}
 use Rattle.cr_book.specs.declared.earlier.Earlier.{Earlier}
 use Rattle.cr_book.specs.declared.earlier.Earlier.TheVariants.{Nothing, Same, Other}
 
--- what is kept under a number of a user's, by the tables and the history; nobody gives any
+-- what is kept under a number of a user's, by the tables and the history; an unauthenticated caller has no numbers
 abbrev pub kept_by : Tables → Option ℕ → History → ℕ → Option KeptCall
 kept_by t None H number = None
 kept_by t (Some user) H number = kept_call (lines_of t.accounts) (kept_under user number H)
 
--- the same of what the log finds
+-- what is kept of a command, by what the log finds
 abbrev pub kept_seen : List AccountLine → SeenKept → KeptCall
 kept_seen accounts kept = record {
   mark = key_mark kept.first.stamp.key;
@@ -33,7 +33,7 @@ abbrev pub earlier_by : Bool → List ℕ → Option KeptCall → Earlier
 earlier_by is_bulk mark None = Nothing
 earlier_by is_bulk mark (Some kept) = if bytes_eq kept.mark mark then Same (repeated_receipt is_bulk kept) else Other
 
--- the same of a command that may have no key, for which nothing is looked up
+-- what the history has under the number of a command that may have none; nothing is looked up then
 abbrev pub earlier_of : Bool → Option RetryKey → (ℕ → Option KeptCall) → Earlier
 earlier_of is_bulk None kept = Nothing
 earlier_of is_bulk (Some key) kept = earlier_by is_bulk key.mark (kept key.number)

@@ -9,5 +9,6 @@ use Rattle.cr_base.specs.Rows.{kind_of, kind_number}
 abbrev pub is_of_kind : EntryKind → Stamped → Bool
 is_of_kind kind e = kind_number (kind_of e.entry) == kind_number kind
 
+-- how many entries of the history are of this kind
 abbrev pub count_of_kind : EntryKind → History → ℕ
 count_of_kind kind H = length (filter (is_of_kind kind) H)

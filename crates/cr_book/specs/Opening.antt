@@ -9,16 +9,15 @@ use Rattle.cr_book.specs.declared.opening.OpenError.{OpenError}
 use Rattle.cr_book.specs.declared.opening.OpenError.TheVariants as errors
 use Rattle.cr_book.specs.Seen.{SeenBook}
 
--- The rows continue a legal history: they are the first of one's rows. So the groups among them are legal, and what
--- stands behind the last whole group begins one that an allowed command or bulk would add.
+-- The rows continue a legal history: they are the first of one's rows. The groups among them are legal, and what
+-- follows the last whole group begins one that an allowed command or bulk would add.
 pub record Continue (rows : List Row) : Type 0 where
   pub history : History
   pub legal : Legal history
   pub after : List Row
   pub rows_are : rows_of history ≡ rows ++ after
 
--- the rows, all of which continue a legal history, end inside a group, since the last one is
--- told to have another behind it
+-- the rows, all of which continue a legal history, end inside a group: the last one has the mark that another follows
 pub record AreCutOff (rows : List Row) (last : Row) : Type 0 where
   pub continue : Continue rows
   pub more : last.more ≡ 1

@@ -1,4 +1,4 @@
--- What is true of rows that are being read, one behind another.
+-- What is true of rows that are being read, one after another.
 use Rattle.std.specs.Prelude.{ℕ, ◌≡◌, ◌++◌, List, [], ◌∷◌, Option, Some, None, IsTrue}
 use Rattle.std.specs.List.{AllByRecursion}
 use Rattle.std.specs.Option.{option_map}
@@ -26,7 +26,7 @@ use Rattle.cr_book.specs.Opening.{Continue, AreCutOff}
 
 -- ---- entries that are tried
 
--- the entry is taken where this is so of it, and only then
+-- the entry is taken if and only if this holds
 abbrev pub TakenIf : Type 0 → Stamped → Option Stamped → Type 0
 TakenIf A next (Some s) = (s ≡ next) × A
 TakenIf A next None = A → ⊥
@@ -39,7 +39,7 @@ row_told (Unassigned paper user ordinal) = command_of (Unassigned paper user ord
 row_told (Tagged paper tag on) = command_of (Tagged paper tag on)
 row_told e = None
 
--- entries behind which rows of the same bulk may stand: those that begin no registration and no submission
+-- this holds, if rows of the same bulk may follow the entry: if it begins neither a registration nor a submission
 abbrev pub IfRows : Entry → Type 0 → Type 0
 IfRows (Registered user name digest) A = Unit {0}
 IfRows (Submitted paper title abstract) A = Unit {0}
@@ -51,7 +51,7 @@ IfRows e A = A
 abbrev pub EndWith : History → Option Row → Type 0
 EndWith begun last = (before : History) (s : Stamped) → begun ≡ before ++ s ∷ [] → last ≡ Some (row_of s)
 
--- the history of the whole groups is legal and the tables are its own; the entries behind them are due, another follows
+-- the history of the whole groups is legal and the tables are its own; the entries after them are due, another follows
 -- each, and the last has this row, or there is none
 pub record IsReading (log : History) (tables : Tables) (begun : History) (end : Option Row) : Type 0 where
   pub legal : Legal log
@@ -68,7 +68,7 @@ pub record IsWholeGroup (log : History) (tables : Tables) (group : History) : Ty
   pub fits : FitInTurn tables group
   pub follows : MayFollow log group
 
--- a row behind these is refused: they continue a legal history, and with the row they don't
+-- a row after these is refused: they continue a legal history, and with the row they don't
 abbrev pub IsRowRefused : List Row → Row → ReadError → Type 0
 IsRowRefused before row (errors.Bad found) = (found ≡ row) × Continue before × (Continue (before ++ row ∷ []) → ⊥)
 IsRowRefused before row errors.OutOfMemory = Unit {0}

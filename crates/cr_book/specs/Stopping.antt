@@ -9,14 +9,14 @@ use Rattle.cr_ports.specs.Count.{Rises}
 use Rattle.cr_ports.specs.Stopping.{IsAmong, LeavesOnly, OpensTo, TriedAfter}
 use Rattle.cr_ports.specs.declared.keeper.Keeper.{Ghosts}
 
--- one command or one bulk, which is allowed behind this history, adds this group to it
+-- one command or one bulk, which is allowed on this history, adds this group to it
 pub record AddsOne (H group : History) : Type 0 where
   pub move : Move
   pub allowed : IsMoveAllowed H move
   pub adds : moved H move ≡ H ++ group
 
--- What was left opens to the rows of a legal history, or to these and then whole the group of one command or bulk
--- behind it. That history goes on from the rows that were opened, where they are told, and is a beginning of the log.
+-- What was left opens to the rows of a legal history, or to these and then the whole group of one command or bulk after
+-- it. That history goes on from the rows that were opened, if they are told, and is a beginning of the log.
 pub record OpensAmid (opens : List ℕ → List Row → Type 0) (opened : Option (List Row)) (log : History)
     (image : List ℕ) : Type 0 where
   pub history : History

@@ -108,7 +108,7 @@ fn follows(live: &Live, first: &Stamped, begun: &[Stamped], next: &Stamped) -> b
     next.stamp == first.stamp && may_count(live, first, begun.len() + 1, next.more)
 }
 
-/// Returns the value if this holds.
+/// Returns the entry if this holds.
 fn when(holds: bool, next: Stamped) -> Option<Stamped>
     ensures { result ≡ (if holds then Some next else None) }
 {
@@ -141,7 +141,7 @@ fn is_known(live: &Live, caller: &Option<UserNo>) -> bool
     }
 }
 
-/// Returns whether whoever gives it may have given it this number: nobody gives any.
+/// Returns whether this caller's command may have this number: an unauthenticated caller's has none.
 fn may_have_key(caller: &Option<UserNo>, key: &Option<RetryKey>) -> bool
     ensures { result ≡ may_have_key caller.now key.now }
 {
@@ -261,7 +261,7 @@ fn may_count(live: &Live, first: &Stamped, place: usize, more: bool) -> bool
 
 // ---- what is drawn
 
-/// Returns the number of an entry that isn't its command's but is drawn, or 0 where none is.
+/// Returns the number of an entry that isn't its command's but is drawn, or 0 if none is.
 fn number_of(entry: &Entry) -> u64
     ensures { result ≡ (drawn_numbers entry.now).number }
 {
@@ -288,14 +288,14 @@ fn ordinal_of(entry: &Entry) -> Option<Ordinal>
     }
 }
 
-/// Returns whether these are the numbers drawn of an entry.
+/// Returns whether these are the numbers drawn for an entry.
 fn has_numbers(entry: &Entry, number: u64, ordinal: &Option<Ordinal>) -> bool
     ensures { IsTrue result ↔ (drawn_numbers entry.now ≡ record { number = number; ordinal = ordinal.now }) }
 {
     number_of(entry) == number && ordinal_of(entry) == *ordinal
 }
 
-/// Returns whether the maker is the same, and these are the numbers drawn of the entry.
+/// Returns whether the maker is the same, and these are the numbers drawn for the entry.
 fn is_alike(
     given: &Stamp,
     stamp: &Stamp,

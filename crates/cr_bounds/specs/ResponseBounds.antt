@@ -1,6 +1,6 @@
--- What a paper's authors are shown of its reviews before the notification, in a committee's words, and
--- what therefore looks the same to them. They hold of every history, legal or not, as the bounds of a view do
--- (ViewBounds), and of every user; what authors read while they may respond is the HotCRP manual's.
+-- What a paper's authors are shown of its reviews before the notification, in a committee's terms, and which histories
+-- therefore look alike to them. These statements hold of every history, legal or not, and of every user, as those of
+-- ViewBounds do. What authors read while they may respond is the HotCRP manual's.
 use Rattle.std.specs.Prelude.{ℕ, Bool, ◌≡◌, ◌≤◌, ◌&&◌, [], ◌∷◌, ◌++◌, length, Option, All}
 use Rattle.std.specs.Prelude.{IsTrue, IsFalse}
 use Rattle.std.specs.List.{flat_map, list_any}
@@ -23,15 +23,16 @@ use Rattle.cr_bounds.specs.ViewBounds.{is_others, may_learn_forms}
 
 -- ---- what is shown
 
--- before a response phase is opened a paper's authors are shown nothing of its reviews; nor are they in the discussion
--- of a conference that has skipped it
+-- a paper's authors are shown nothing of others' forms on it unless they may learn of forms: not before a response
+-- phase is opened, and in the discussion not if the response was skipped
 abbrev pub ReviewsAwaited : Type 0
 ReviewsAwaited =
     (u : Option ℕ) (p : ℕ) (H : History) → IsTrue (is_author u p H) → IsFalse (may_learn_forms H)
     → All (λ (s : Sighting). IsFalse (is_others kinds.Reviewed p s)) (view u H)
 
--- and up to the notification they are shown of a form its label, its score, its confidence and its text to the authors,
--- whatever the mode: not who wrote it, not which of its label's forms it is, and not what is for the committee
+-- before the notification a paper's authors are shown of another's form on it exactly its label's ordinal, its score,
+-- its confidence and its text to the authors, whatever the mode: not who wrote it, not which of its label's forms it
+-- is, and not the text to the committee
 abbrev pub ReviewsForAuthors : Type 0
 ReviewsForAuthors =
     (u : Option ℕ) (p : ℕ) (H : History) → IsTrue (is_author u p H) → IsFalse (is_past_discussion (phase_of H))
@@ -46,7 +47,7 @@ ReviewsForAuthors =
     })
     (view u H)
 
--- before the notification a paper's authors are shown at most one form of each label
+-- before the notification a paper's authors are shown at most one form of each label by others
 abbrev pub OneReview : Type 0
 OneReview =
     (u : Option ℕ) (p o : ℕ) (H : History) → IsTrue (is_author u p H) → IsFalse (is_past_discussion (phase_of H))
@@ -54,7 +55,7 @@ OneReview =
     (view u H))
     ≤ 1
 
--- and no form that was written after the response was opened
+-- before the notification a paper's authors are shown no form by others that was written after the response was opened
 abbrev pub ReviewsBehindUnseen : Type 0
 ReviewsBehindUnseen =
     (u : Option ℕ) (p : ℕ) (H : History) → IsTrue (is_author u p H) → IsFalse (is_past_discussion (phase_of H))
@@ -62,14 +63,15 @@ ReviewsBehindUnseen =
 
 -- ---- what looks the same
 
--- a form that another than the reader wrote, of a paper of hers, and that isn't the last of its label before the
--- response
+-- the reader is an author of the paper and didn't write the form, and the form isn't one to which authors respond:
+-- between these entries it isn't the last of its label before the response
 pub record IsUnheard (u : Option ℕ) (H : History) (at : Around) (maker paper ordinal : ℕ) : Type 0 where
   pub author : IsTrue (is_author u paper H)
   pub other : IsFalse (is_number u maker)
   pub unheard : IsFalse (is_responded_to paper ordinal at.before at.after)
 
--- two entries that are the same, or are both such a form, and differ in its score, its confidence and its texts
+-- two entries that are equal, or are forms to which `IsUnheard` applies and which differ only in score, confidence and
+-- texts
 pub data IsSameUnlessUnheard (u : Option ℕ) (H : History) (at : Around) : Stamped → Stamped → Type 0 where
   same : (e : Stamped) → IsSameUnlessUnheard u H at e e
   changed : (stamp : Stamp) (more : Bool) (paper ordinal version : ℕ) (form other : Form)
@@ -77,13 +79,14 @@ pub data IsSameUnlessUnheard (u : Option ℕ) (H : History) (at : Around) : Stam
       → IsSameUnlessUnheard u H at (stamped stamp more (Reviewed paper ordinal version form))
       (stamped stamp more (Reviewed paper ordinal version other))
 
--- before the notification a user sees the same, whatever is in such forms
+-- before the notification a user's view doesn't depend on what is in forms to which `IsUnheard` applies
 abbrev pub UnheardForms : Type 0
 UnheardForms =
     (u : Option ℕ) (H H' : History) → IsFalse (is_past_discussion (phase_of H))
     → PlaceByPlace (IsSameUnlessUnheard u H) [] H H' → view u H ≡ view u H'
 
--- and sees the same without a form that was written after the response was opened
+-- before the notification a user's view doesn't change if a form to which `IsUnheard` applies, and that was written
+-- after the response was opened, is left out
 abbrev pub LaterForms : Type 0
 LaterForms =
     (u : Option ℕ) (before after : History) (stamp : Stamp) (more : Bool) (paper ordinal version : ℕ) (form : Form)

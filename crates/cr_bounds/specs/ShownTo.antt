@@ -1,10 +1,10 @@
 -- Who is shown which part of an entry: a paragraph for each part, and in it a line for each kind of entry that has it.
--- It is the trigger table turned round and written anew, from what a committee wants: who sees titles, abstracts,
--- authors, review preferences, reviewers, reviews, comments, tags and decisions is the HotCRP manual's, from when they
--- do follows CoCon's phases (CAV 2014). It rests on facts of the history (phase, mode, roles, authors, declared
--- conflicts, withdrawals, decisions) and on no other word of the trigger table or of a paper's page: who is on the
--- committee, who is in conflict, when the bidding begins, what a mode hides and whom a tag is for are said again, so
--- that such a word, changed there so that more is shown, is refused here.
+-- It is a second statement of the visibility policy (the trigger table), by parts instead of by readers, in a
+-- committee's terms. Who sees titles, abstracts, authors, review preferences, reviewers, reviews, comments, tags and
+-- decisions is the HotCRP manual's; from which phase on follows CoCon's phases (CAV 2014). It rests on facts of the
+-- history (phase, mode, roles, authors, declared conflicts, withdrawals, decisions) and on no definition of the policy
+-- or of a paper's page. Who is on the committee, who is in conflict, when the bidding begins, what a mode hides and
+-- whom a tag is for are defined here once more: a definition that is changed there, and shows more, is refused here.
 use Rattle.std.specs.Prelude.{ℕ, Bool, true, false, not, List, [], ◌∷◌, ◌++◌, Option}
 use Rattle.std.specs.Prelude.{Some, None, unwrap_or, ◌&&◌, ◌||◌, ◌==◌, if◌then◌else◌}
 use Rattle.std.specs.List.{list_any}
@@ -36,12 +36,13 @@ use Rattle.cr_base.specs.Rows.{kind_of}
 
 -- ---- who reads
 
--- members of the committee, chairs among them
+-- a user of this role is a member of the committee; chairs are members
 abbrev pub is_on_committee : Role → Bool
 is_on_committee Account = false
 is_on_committee Member = true
 is_on_committee Chair = true
 
+-- a user of this role is a chair
 abbrev pub chairs_committee : Role → Bool
 chairs_committee Account = false
 chairs_committee Member = false
@@ -57,7 +58,7 @@ abbrev pub is_past_discussion : Phase → Bool
 is_past_discussion Notification = true
 is_past_discussion phase = is_over phase
 
--- the phase is the discussion or later: the reviewing is over, and forms may still be written
+-- the phase is the discussion or later
 abbrev pub is_past_reviewing : Phase → Bool
 is_past_reviewing Discussion = true
 is_past_reviewing phase = is_past_discussion phase
@@ -73,18 +74,19 @@ is_past_submission Bidding = true
 is_past_submission Reviewing = true
 is_past_submission phase = is_response_or_later phase
 
--- authors are hidden from members and externals
+-- in this mode members and externals aren't told who wrote a paper
 abbrev pub hides_authors : Mode → Bool
 hides_authors Overt = false
 hides_authors Blind = false
 hides_authors Anonymous = true
 
--- reviewers are hidden from members, and are named to authors
+-- in this mode members and externals aren't told who reviews, except chairs
 abbrev pub hides_reviewers : Mode → Bool
 hides_reviewers Overt = false
 hides_reviewers Blind = false
 hides_reviewers Anonymous = true
 
+-- in this mode a paper's authors are told who reviewed it, from the notification on
 abbrev pub names_reviewers : Mode → Bool
 names_reviewers Overt = true
 names_reviewers Blind = false
@@ -110,7 +112,7 @@ visits u p H = not (is_on_committee (role_of u H)) && is_invited u p H
 abbrev pub reads_visiting : Option ℕ → ℕ → History → Bool
 reads_visiting u p H = visits u p H && not (has_conflict u p H) && is_past_submission (phase_of H)
 
--- the user reads the paper, to review or to discuss it: is eligible for it, or reads it as an external
+-- the user may read the paper to judge it: is eligible for it, or reads it as an external
 abbrev pub has_before_her : Option ℕ → ℕ → History → Bool
 has_before_her u p H = is_eligible u p H || reads_visiting u p H
 
@@ -126,98 +128,106 @@ administers u p H = chairs_committee (role_of u H) && not (has_conflict u p H)
 abbrev pub discusses : Option ℕ → ℕ → History → Bool
 discusses u p H = is_eligible u p H && is_past_reviewing (phase_of H)
 
--- the user wrote the paper and is named its reviewers: in the open mode, from the notification on
+-- the user is an author of the paper who is told its reviewers: in the open mode, from the notification on
 abbrev pub is_answered : Option ℕ → ℕ → History → Bool
 is_answered u p H = is_author u p H && names_reviewers (mode_of H) && is_past_discussion (phase_of H)
 
--- the user wrote the paper, and may respond to its reviews, or might have: from the response on
+-- the user is an author of the paper, and the phase is the response or later
 abbrev pub is_author_since_response : Option ℕ → ℕ → History → Bool
 is_author_since_response u p H = is_author u p H && is_response_or_later (phase_of H)
 
--- the user wrote the paper, and learns what became of it: from the notification on
+-- the user is an author of the paper, and the phase is the notification or later
 abbrev pub is_notified : Option ℕ → ℕ → History → Bool
 is_notified u p H = is_author u p H && is_past_discussion (phase_of H)
 
--- the conference takes the paper
+-- the decision is to accept; no decision isn't
 abbrev pub takes : Option Decision → Bool
 takes None = false
 takes (Some Accept) = true
 takes (Some Reject) = false
 
--- the paper is in the programme: the conference takes it, it isn't withdrawn, and it is the notification or later
+-- the paper is in the programme: the last decision on it is to accept it, it isn't withdrawn, and the phase is the
+-- notification or later
 abbrev pub is_in_programme : ℕ → History → Bool
 is_in_programme p H = takes (decision_of p H) && not (is_withdrawn p H) && is_past_discussion (phase_of H)
 
--- the paper is in the programme and published, for everyone to read: once the conference is closed
+-- the paper is published, for everyone to read: it is in the programme, and the conference is closed
 abbrev pub appears : ℕ → History → Bool
 appears p H = is_in_programme p H && is_over (phase_of H)
 
--- who discusses a paper is told who comments on it: a chair always, others unless reviewers are hidden
+-- the user, who discusses a paper, is told who comments on it: a chair always, other members unless the mode hides
+-- reviewers
 abbrev pub knows_writers : Option ℕ → History → Bool
 knows_writers u H = chairs_committee (role_of u H) || not (hides_reviewers (mode_of H))
 
--- ---- which entries she is told of
+-- ---- which entries a user is told of
 
--- the entry gives the paper its texts; and one of these later ones gives it others
+-- the entry gives the paper a title and an abstract
 abbrev pub gives_texts : ℕ → Entry → Bool
 gives_texts p (Submitted paper title abstract) = paper == p
 gives_texts p (Revised paper title abstract) = paper == p
 gives_texts p _ = false
 
+-- one of these later entries gives the paper another title and abstract
 abbrev pub is_replaced : ℕ → History → Bool
 is_replaced p later = list_any (λ (e : Stamped). gives_texts p e.entry) later
 
--- the entry gives the paper its content; and one of these later ones gives it another
+-- the entry gives the paper a version of its content
 abbrev pub gives_content : ℕ → Entry → Bool
 gives_content p (Uploaded paper version content) = paper == p
 gives_content p _ = false
 
+-- one of these later entries gives the paper another version of its content
 abbrev pub is_superseded : ℕ → History → Bool
 is_superseded p later = list_any (λ (e : Stamped). gives_content p e.entry) later
 
--- the entry decides on the paper; and one of these later ones decides again
+-- the entry is a decision on the paper
 abbrev pub decides : ℕ → Entry → Bool
 decides p (Decided paper decision) = paper == p
 decides p _ = false
 
+-- one of these later entries is another decision on the paper
 abbrev pub is_decided_again : ℕ → History → Bool
 is_decided_again p later = list_any (λ (e : Stamped). decides p e.entry) later
 
--- the entry is a form under the paper's label of this ordinal; and one of these is
+-- the entry is a form (a version of a review) under the paper's label of this ordinal
 abbrev pub gives_form : ℕ → ℕ → Entry → Bool
 gives_form p o (Reviewed paper ordinal version form) = paper == p && ordinal == o
 gives_form p o _ = false
 
+-- one of these entries is a form under the paper's label of this ordinal
 abbrev pub is_reviewed : ℕ → ℕ → History → Bool
 is_reviewed p o H = list_any (λ (e : Stamped). gives_form p o e.entry) H
 
--- the entry begins the discussion
+-- the phase is the discussion
 abbrev pub is_discussion : Phase → Bool
 is_discussion Discussion = true
 is_discussion _ = false
 
+-- the entry sets the phase to the discussion
 abbrev pub begins_discussion : Entry → Bool
 begins_discussion (PhaseSet phase) = is_discussion phase
 begins_discussion _ = false
 
--- a form between these entries is one of those that the committee discusses: it was written when the discussion had
--- begun, or no later one of its label was written before that
+-- a form under the paper's label of this ordinal, between these earlier and later entries, is one that the committee
+-- discusses: it was written once the discussion had begun, or is the last of its label before that
 abbrev pub is_discussed : ℕ → ℕ → History → History → Bool
 is_discussed p o before later =
     list_any (λ (e : Stamped). begins_discussion e.entry) before
     || not (is_reviewed p o (until (λ (e : Stamped). begins_discussion e.entry) later))
 
--- the entry begins the response
+-- the phase is the response
 abbrev pub is_response : Phase → Bool
 is_response Response = true
 is_response _ = false
 
+-- the entry sets the phase to the response
 abbrev pub begins_response : Entry → Bool
 begins_response (PhaseSet phase) = is_response phase
 begins_response _ = false
 
--- a form between these entries is the one to which authors respond: the response begins after it, and no later form
--- of its label was written before that
+-- a form under the paper's label of this ordinal, between these earlier and later entries, is one to which authors
+-- respond: the response begins after it, and it is the last of its label before that
 abbrev pub is_responded_to : ℕ → ℕ → History → History → Bool
 is_responded_to p o before later =
     not (list_any (λ (e : Stamped). begins_response e.entry) before)
@@ -240,15 +250,17 @@ learns_form u H before later paper ordinal =
 abbrev pub counts_form : Option ℕ → History → History → ℕ → ℕ → Bool
 counts_form u H before paper ordinal = administers u paper H && not (is_reviewed paper ordinal before)
 
--- a tag is the committee's if it begins with no `~`, the chairs' if it begins with two, and else its setter's
+-- the tag is the committee's: it doesn't begin with `~`
 abbrev pub is_committees : List ℕ → Bool
 is_committees [] = true
 is_committees (a ∷ tag) = not (a == 126)
 
+-- the tag is the chairs': it begins with `~~`
 abbrev pub is_chairs : List ℕ → Bool
 is_chairs (a ∷ b ∷ tag) = a == 126 && b == 126
 is_chairs _ = false
 
+-- the tag is its setter's own: it begins with one `~`
 abbrev pub is_setters : List ℕ → Bool
 is_setters tag = not (is_committees tag) && not (is_chairs tag)
 
@@ -277,19 +289,28 @@ owns u H maker paper = is_number u maker || is_author u paper H
 abbrev pub is_party : Option ℕ → History → ℕ → ℕ → ℕ → Bool
 is_party u H maker paper user = is_number u user || is_number u maker || administers u paper H
 
--- accounts, roles, dismissals, phases, modes, deadlines and submissions, all of them. Of a paper's other entries her
--- own and, as an author, all but conflicts that no author made, and invitations; co-authors where she oversees the
--- paper, where it is before her unless authors are hidden, and where it is in the programme; a revision that none has
--- replaced where she serves, reads the paper as an external, or it is in the programme; an upload that none has
--- superseded where the paper is before her, or it appears; a withdrawal where she serves, or reads the paper as an
--- external; of conflicts the ones that name her, and all where she oversees the paper; of bids her own, and all where
--- she oversees the paper; of invitations those that she is a party to; of assignments these, all where she discusses
--- the paper, and those to her own paper where she is named its reviewers; of forms her own, the first of each label
--- where she administers the paper, those that are discussed where she discusses it, and of her own paper of each label
--- the one to which authors respond where she is heard, and the last where she is notified; of comments her own, and all
--- where she discusses the paper; of responses those of her own papers' authors, and all where she discusses the paper;
--- of tags those that she set, and those that she reads; and of decisions those that she reads, the last one by which
--- she learns what became of her paper, and the last one of a paper in the programme
+-- the user is told of an entry that this maker added between these earlier and later ones, H being the whole history.
+-- Of accounts, roles, dismissals, phases, modes, deadlines and submissions: of all.
+-- Of each other entry the user who made it is told; besides, of an entry on a paper:
+-- a co-author: its authors; those who oversee it; those who may read it to judge it, unless the mode hides authors;
+-- everyone, if it is in the programme;
+-- a revision: its authors; of the last one also those who serve or read it as externals, and everyone if it is in the
+-- programme;
+-- an upload: its authors; of the last one also those who may read it to judge it, and everyone if it appears;
+-- a withdrawal: its authors; those who serve or read it as externals;
+-- a conflict: the user that it names; its authors, if an author made it; those who oversee it;
+-- a bid: those who oversee it;
+-- an assignment, or its end: the user assigned; those who administer or discuss it; its authors, if they are told its
+-- reviewers;
+-- an invitation, or its end: the user invited; those who administer it;
+-- a form: if it is the first of its label, those who administer the paper; if it is discussed, those who discuss the
+-- paper; if it is the one to which they respond, the paper's authors from the response on; if it is the last of its
+-- label, the paper's authors from the notification on;
+-- a comment: those who discuss it;
+-- a response: its authors; those who discuss it;
+-- a tag: those who read the tag;
+-- a decision: those who discuss it; of the last one also its authors from the notification on, and everyone if it is in
+-- the programme
 abbrev pub is_told : Option ℕ → History → History → History → ℕ → Entry → Bool
 is_told u H before later maker (Registered user name digest) = true
 is_told u H before later maker (Named user role) = true
@@ -331,10 +352,10 @@ is_told u H before later maker (Invited paper user) = is_party u H maker paper u
 is_told u H before later maker (Uninvited paper user) = is_party u H maker paper user
 is_told u H before later maker (Responded paper text) = owns u H maker paper || discusses u paper H
 
--- ---- the parts of an entry that she is told of
+-- ---- the parts of an entry of which a user is told
 
--- what a part is for a user at the end of a history: of an entry between these earlier and those later ones, under
--- this stamp
+-- what a user is told of one part of an entry: a function of the user, the whole history, the entries before and after
+-- this one, its stamp, and the entry
 abbrev pub PartFor : Type 0 → Type 0
 PartFor A = Option ℕ → History → History → History → Stamp → Entry → A
 
@@ -342,18 +363,19 @@ PartFor A = Option ℕ → History → History → History → Stamp → Entry �
 abbrev pub where_known : {A : Type 0} → Bool → A → Option A
 where_known known x = if known then Some x else None
 
--- the kind, and whether the entry is the user's own: always
+-- the kind: always
 abbrev pub kind_for : PartFor EntryKind
 kind_for u H before later stamp e = kind_of e
 
+-- the mark that the entry is the user's own: always
 abbrev pub mark_for : PartFor Bool
 mark_for u H before later stamp e = is_number u stamp.maker
 
--- the time: to the user who made the entry
+-- the timestamp: to the user who made the entry
 abbrev pub moment_for : PartFor (Option ℕ)
 moment_for u H before later stamp e = where_known (is_number u stamp.maker) stamp.at
 
--- the number, if there is one, and the digest of the request: to the user who made the entry
+-- the command's number, or that it has none, and the request's digest: to the user who made the entry
 abbrev pub key_for : PartFor (Option (Option RetryKey))
 key_for u H before later stamp e = where_known (is_number u stamp.maker) stamp.key
 
@@ -377,15 +399,15 @@ paper_for u H before later stamp (Uninvited paper user) = Some paper
 paper_for u H before later stamp (Responded paper text) = Some paper
 paper_for u H before later stamp _ = None
 
--- who reviews a paper: to the parties of the assignment, to authors who are named the reviewers, and to those who
--- discuss the paper unless reviewers are hidden
+-- who reviews a paper: to the user assigned, the user who made the entry, those who administer the paper, its authors
+-- if they are told its reviewers, and those who discuss the paper unless the mode hides reviewers
 abbrev pub reviewer_for : Option ℕ → History → ℕ → ℕ → ℕ → Option ℕ
 reviewer_for u H maker paper user =
     where_known (is_party u H maker paper user || (discusses u paper H && not (hides_reviewers (mode_of H)))
     || is_answered u paper H) user
 
--- the user registered, named to a role, dismissed, named as a co-author or in a conflict, invited or no longer: always;
--- and one who is assigned or unassigned
+-- the user who is registered, appointed to a role or dismissed, named as a co-author or in a conflict, invited, or
+-- whose invitation ended: always; the user who is assigned or unassigned: as `reviewer_for` says
 abbrev pub user_for : PartFor (Option ℕ)
 user_for u H before later stamp (Registered user name digest) = Some user
 user_for u H before later stamp (Named user role) = Some user
@@ -429,11 +451,10 @@ abbrev pub mode_for : PartFor (Option Mode)
 mode_for u H before later stamp (ModeSet mode) = Some mode
 mode_for u H before later stamp _ = None
 
--- who submitted a paper: to its authors, to those who oversee it, to those whom it is before unless authors are
--- hidden, and to everyone where it is in the programme;
--- who made a bid: to those who oversee the paper; who made a comment: to those who discuss the
--- paper and are told who comments;
--- who made any other entry: to nobody
+-- the user who made the entry. Of a submission: to the paper's authors, to those who oversee it, to those who may read
+-- it to judge it unless the mode hides authors, and to everyone if it is in the programme.
+-- Of a bid: to those who oversee the paper. Of a comment: to those who discuss the paper and are told who comments
+-- (`knows_writers`). Of any other entry: to no user.
 abbrev pub maker_for : PartFor (Option ℕ)
 maker_for u H before later stamp (Submitted paper title abstract) =
     where_known (is_author u paper H || oversees u paper H
@@ -443,8 +464,8 @@ maker_for u H before later stamp (Commented paper n ordinal text) =
     where_known (discusses u paper H && knows_writers u H) stamp.maker
 maker_for u H before later stamp _ = None
 
--- a title: to the paper's authors and to whoever made the entry, and the last one to those who serve or read the paper
--- as externals, and to everyone where it is in the programme
+-- a title: to the paper's authors and to the user who made the entry; the last one also to those who serve or read the
+-- paper as externals, and to everyone if it is in the programme
 abbrev pub title_for : PartFor (Option (List ℕ))
 title_for u H before later stamp (Submitted paper title abstract) =
     where_known (is_author u paper H
@@ -454,8 +475,8 @@ title_for u H before later stamp (Revised paper title abstract) =
     || (not (is_replaced paper later) && (serves u H || reads_visiting u paper H || is_in_programme paper H))) title
 title_for u H before later stamp _ = None
 
--- an abstract: to the paper's authors and to whoever made the entry, and the last one to those whom the paper is
--- before, and to everyone where it appears
+-- an abstract: to the paper's authors and to the user who made the entry; the last one also to those who may read the
+-- paper to judge it, and to everyone if it appears
 abbrev pub abstract_for : PartFor (Option (List ℕ))
 abstract_for u H before later stamp (Submitted paper title abstract) =
     where_known (is_author u paper H
@@ -465,8 +486,9 @@ abstract_for u H before later stamp (Revised paper title abstract) =
     || (not (is_replaced paper later) && (has_before_her u paper H || appears paper H))) abstract
 abstract_for u H before later stamp _ = None
 
--- a version's number, and its content: to the paper's authors and to whoever made the entry, and the last one to those
--- whom the paper is before, and to everyone where it appears
+-- the number of a version of a content: to the paper's authors and to the user who made the entry; the last one also to
+-- those who may read the paper to judge it, and to everyone if it appears. Of a form, the version that it judges: to
+-- those who read all of the form.
 abbrev pub version_for : PartFor (Option ℕ)
 version_for u H before later stamp (Uploaded paper version content) =
     where_known (owns u H stamp.maker paper
@@ -475,6 +497,7 @@ version_for u H before later stamp (Reviewed paper ordinal version form) =
     where_known (reads_form u H before later stamp.maker paper ordinal) version
 version_for u H before later stamp _ = None
 
+-- a content: to the users to whom `version_for` shows its number
 abbrev pub content_for : PartFor (Option (List ℕ))
 content_for u H before later stamp (Uploaded paper version content) =
     where_known (owns u H stamp.maker paper
@@ -492,14 +515,15 @@ abbrev pub value_for : PartFor (Option ℕ)
 value_for u H before later stamp (Bid paper value) = Some value
 value_for u H before later stamp _ = None
 
--- what a reviewer is to the paper: to the parties of the assignment, and to those who discuss the paper
+-- whether a reviewer is the primary, the secondary or another: to the user assigned, the user who made the entry, and
+-- those who administer or discuss the paper
 abbrev pub review_kind_for : PartFor (Option Kind)
 review_kind_for u H before later stamp (Assigned paper user review_kind ordinal) =
     where_known (is_party u H stamp.maker paper user || discusses u paper H) review_kind
 review_kind_for u H before later stamp _ = None
 
--- the ordinal of a label: of an assignment and of a form always; of a comment to its maker, and to those who discuss
--- the paper and aren't told who comments
+-- the ordinal of a label. Of an assignment, its end and a form: always. Of a comment: to its maker, and to those who
+-- discuss the paper and aren't told who comments.
 abbrev pub ordinal_for : PartFor (Option ℕ)
 ordinal_for u H before later stamp (Assigned paper user review_kind ordinal) = Some ordinal
 ordinal_for u H before later stamp (Unassigned paper user ordinal) = Some ordinal
@@ -508,44 +532,48 @@ ordinal_for u H before later stamp (Commented paper n ordinal text) =
     where_known (is_number u stamp.maker || (discusses u paper H && not (knows_writers u H))) (unwrap_or ordinal 0)
 ordinal_for u H before later stamp _ = None
 
--- the score, the confidence and the text to the authors of a form: to those who read all of it,
--- and to authors who learn of it
+-- the user is told the score, the confidence and the text to the authors of a form: the user reads all of it, or is an
+-- author who learns of it
 abbrev pub reads_review : Option ℕ → History → History → History → ℕ → ℕ → ℕ → Bool
 reads_review u H before later maker paper ordinal =
     reads_form u H before later maker paper ordinal || learns_form u H before later paper ordinal
 
+-- a form's score: to those for whom `reads_review` holds
 abbrev pub score_for : PartFor (Option ℕ)
 score_for u H before later stamp (Reviewed paper ordinal version form) =
     where_known (reads_review u H before later stamp.maker paper ordinal) form.score
 score_for u H before later stamp _ = None
 
+-- a form's confidence: to those for whom `reads_review` holds
 abbrev pub confidence_for : PartFor (Option ℕ)
 confidence_for u H before later stamp (Reviewed paper ordinal version form) =
     where_known (reads_review u H before later stamp.maker paper ordinal) form.confidence
 confidence_for u H before later stamp _ = None
 
+-- a form's text to the authors: to those for whom `reads_review` holds
 abbrev pub to_authors_for : PartFor (Option (List ℕ))
 to_authors_for u H before later stamp (Reviewed paper ordinal version form) =
     where_known (reads_review u H before later stamp.maker paper ordinal) form.to_authors
 to_authors_for u H before later stamp _ = None
 
--- the text to the committee: to those who read all of the form
+-- a form's text to the committee: to those who read all of the form
 abbrev pub to_pc_for : PartFor (Option (List ℕ))
 to_pc_for u H before later stamp (Reviewed paper ordinal version form) =
     where_known (reads_form u H before later stamp.maker paper ordinal) form.to_pc
 to_pc_for u H before later stamp _ = None
 
--- the mark that there is a form under the label: to those who administer the paper, of the first
+-- the mark that there is a form under a label: of its first form, to those who administer the paper
 abbrev pub done_for : PartFor (Option Bool)
 done_for u H before later stamp (Reviewed paper ordinal version form) =
     where_known (counts_form u H before paper ordinal) true
 done_for u H before later stamp _ = None
 
--- a comment's number, and its text, and that of a response: always
+-- a comment's number: always
 abbrev pub n_for : PartFor (Option ℕ)
 n_for u H before later stamp (Commented paper n ordinal text) = Some n
 n_for u H before later stamp _ = None
 
+-- the text of a comment or a response: always
 abbrev pub text_for : PartFor (Option (List ℕ))
 text_for u H before later stamp (Commented paper n ordinal text) = Some text
 text_for u H before later stamp (Responded paper text) = Some text
@@ -562,19 +590,20 @@ decision_for u H before later stamp (Decided paper decision) =
     where_known (reads_decision u H stamp.maker paper || learns_outcome u H later paper) decision
 decision_for u H before later stamp _ = None
 
--- the mark that it is what became of a paper: to its authors, who learn of it
+-- the mark that a decision is what became of a paper: to its authors who learn of it
 abbrev pub outcome_for : PartFor (Option Bool)
 outcome_for u H before later stamp (Decided paper decision) = where_known (learns_outcome u H later paper) true
 outcome_for u H before later stamp _ = None
 
--- the mark that a paper is accepted: to everyone, where it is in the programme
+-- the mark that a paper is accepted: to everyone, if it is in the programme
 abbrev pub accepted_for : PartFor (Option Bool)
 accepted_for u H before later stamp (Decided paper decision) = where_known (is_announced H later paper) true
 accepted_for u H before later stamp _ = None
 
 -- ---- all entries
 
--- the part of each entry of which the user is told, in order; those before them are given, and H is the whole history
+-- this part of each of the later entries of which the user is told, in order; the other entries come before these, and
+-- H is the whole history
 abbrev pub each_told : {A : Type 0} → Option ℕ → History → (History → History → Stamp → Entry → A)
     → History → History → List A
 each_told u H part before [] = []

@@ -1,6 +1,6 @@
--- The bounds of a view (the word is CoCon's, CAV 2014): of each part of the entries who is shown it, neither more
--- nor less, and what that leaves for those who should know little. They hold of every history, legal or not, of
--- every user and of nobody.
+-- The bounds of a view (the word is CoCon's, CAV 2014): who is shown each part of an entry, neither more nor less, and
+-- what is left for users who should know little. They hold of every history, legal or not, of every user and of an
+-- unauthenticated caller.
 use Rattle.std.specs.Prelude.{ℕ, Bool, true, false, ◌≡◌, ◌≤◌, ◌||◌, ◌&&◌, not, List, [], length}
 use Rattle.std.specs.Prelude.{map, Option, Some, None, All, IsTrue, IsFalse, if◌then◌else◌}
 use Rattle.std.specs.List.{flat_map, list_any}
@@ -31,11 +31,12 @@ use Rattle.cr_bounds.specs.ShownTo.{n_for, text_for, tag_for, decision_for, outc
 
 -- ---- each part
 
--- this part of the sightings, in order, is that of the entries that the user is told of
+-- the reader's view shows this part as ShownTo says, neither more nor less: the parts of the sightings, in order, are
+-- those of the entries of which the user is told
 abbrev pub Shows : {A : Type 0} → (Sighting → A) → PartFor A → Type 0
 Shows seen part = (u : Option ℕ) (H : History) → map seen (view u H) ≡ each_told u H (part u H) [] H
 
--- a view has one line for each entry of which the user is told, and it tells the kind
+-- a view has one sighting for each entry of which the user is told, and shows its kind
 abbrev pub EntriesShown : Type 0
 EntriesShown = Shows (λ (s : Sighting). s.kind) kind_for
 
@@ -52,42 +53,56 @@ MomentsShown = Shows (λ (s : Sighting). s.at) moment_for
 abbrev pub KeysShown : Type 0
 KeysShown = Shows (λ (s : Sighting). s.key) key_for
 
+-- this definition and those up to AcceptedShown: each part of a sighting is shown as ShownTo's definition of that part
+-- says, neither more nor less. Here: the number of the paper.
 abbrev pub PapersShown : Type 0
 PapersShown = Shows (λ (s : Sighting). s.paper) paper_for
 
+-- the user whom an entry names
 abbrev pub UsersShown : Type 0
 UsersShown = Shows (λ (s : Sighting). s.user) user_for
 
+-- the name of a registered user
 abbrev pub NamesShown : Type 0
 NamesShown = Shows (λ (s : Sighting). s.name) name_for
 
+-- the digest of a secret
 abbrev pub DigestsShown : Type 0
 DigestsShown = Shows (λ (s : Sighting). s.digest) digest_for
 
+-- a role
 abbrev pub RolesShown : Type 0
 RolesShown = Shows (λ (s : Sighting). s.role) role_for
 
+-- a phase that is set, and one whose deadline is set
 abbrev pub PhasesShown : Type 0
 PhasesShown = Shows (λ (s : Sighting). s.phase) phase_for
 
+-- a deadline, or that there is none any more
 abbrev pub DeadlinesShown : Type 0
 DeadlinesShown = Shows (λ (s : Sighting). s.until) until_for
 
+-- a mode
 abbrev pub ModesShown : Type 0
 ModesShown = Shows (λ (s : Sighting). s.mode) mode_for
 
+-- the user who made the entry
 abbrev pub MakersShown : Type 0
 MakersShown = Shows (λ (s : Sighting). s.by) maker_for
 
+-- a title
 abbrev pub TitlesShown : Type 0
 TitlesShown = Shows (λ (s : Sighting). s.title) title_for
 
+-- an abstract
 abbrev pub AbstractsShown : Type 0
 AbstractsShown = Shows (λ (s : Sighting). s.abstract) abstract_for
 
+-- the number of a version of a content, and that of the version that a form judges
 abbrev pub VersionsShown : Type 0
 VersionsShown = Shows (λ (s : Sighting). s.version) version_for
 
+-- a content
 abbrev pub ContentsShown : Type 0
 ContentsShown = Shows (λ (s : Sighting). s.content) content_for
 
@@ -95,61 +110,71 @@ ContentsShown = Shows (λ (s : Sighting). s.content) content_for
 abbrev pub SwitchesShown : Type 0
 SwitchesShown = Shows (λ (s : Sighting). s.on) switch_for
 
--- bids, what reviewers are to papers, and the ordinals of their labels
+-- a bid
 abbrev pub ValuesShown : Type 0
 ValuesShown = Shows (λ (s : Sighting). s.value) value_for
 
+-- whether an assigned reviewer is the primary, the secondary or another
 abbrev pub SeatsShown : Type 0
 SeatsShown = Shows (λ (s : Sighting). s.review_kind) review_kind_for
 
+-- the ordinal of a label
 abbrev pub OrdinalsShown : Type 0
 OrdinalsShown = Shows (λ (s : Sighting). s.ordinal) ordinal_for
 
--- what a form has
+-- a form's score
 abbrev pub ScoresShown : Type 0
 ScoresShown = Shows (λ (s : Sighting). s.score) score_for
 
+-- a form's confidence
 abbrev pub ConfidencesShown : Type 0
 ConfidencesShown = Shows (λ (s : Sighting). s.confidence) confidence_for
 
+-- a form's text to the authors
 abbrev pub TextsToAuthorsShown : Type 0
 TextsToAuthorsShown = Shows (λ (s : Sighting). s.to_authors) to_authors_for
 
+-- a form's text to the committee
 abbrev pub TextsToPcShown : Type 0
 TextsToPcShown = Shows (λ (s : Sighting). s.to_pc) to_pc_for
 
--- that there is one
+-- the mark that there is a form under a label
 abbrev pub DoneShown : Type 0
 DoneShown = Shows (λ (s : Sighting). s.done) done_for
 
--- comments and responses, and tags
+-- a comment's number
 abbrev pub NumbersShown : Type 0
 NumbersShown = Shows (λ (s : Sighting). s.n) n_for
 
+-- the text of a comment or a response
 abbrev pub CommentsShown : Type 0
 CommentsShown = Shows (λ (s : Sighting). s.text) text_for
 
+-- a tag
 abbrev pub TagsShown : Type 0
 TagsShown = Shows (λ (s : Sighting). s.tag) tag_for
 
--- decisions, that one is what became of a paper, and that the paper is accepted
+-- a decision
 abbrev pub DecisionsShown : Type 0
 DecisionsShown = Shows (λ (s : Sighting). s.decision) decision_for
 
+-- the mark that a decision is what became of the reader's paper
 abbrev pub OutcomesShown : Type 0
 OutcomesShown = Shows (λ (s : Sighting). s.outcome) outcome_for
 
+-- the mark that a paper is accepted
 abbrev pub AcceptedShown : Type 0
 AcceptedShown = Shows (λ (s : Sighting). s.accepted) accepted_for
 
 -- ---- bids, and who reviews
 
--- what the entry shows is on the paper, assigns or unassigns another than the reader, and isn't the reader's own
+-- the sighting is of an assignment to the paper, or of an assignment's end, of another user than the reader, and isn't
+-- the reader's own
 abbrev pub is_of_other : Option ℕ → ℕ → Sighting → Bool
 is_of_other u p s =
     (is_kind kinds.Assigned s || is_kind kinds.Unassigned s) && is_number s.paper p && not (s.mine || is_user u s.user)
 
--- a user who doesn't oversee the paper is shown no bid on it but their own
+-- a user who doesn't oversee the paper is shown no bid on it except their own
 abbrev pub BidsAreOwn : Type 0
 BidsAreOwn =
     (u : Option ℕ) (p : ℕ) (H : History) → IsFalse (oversees u p H)
@@ -180,7 +205,8 @@ ReviewersUnnamed =
 abbrev pub is_others : EntryKind → ℕ → Sighting → Bool
 is_others kind p s = is_kind kind s && is_number s.paper p && not s.mine
 
--- before the discussion nobody is shown what is in another's form, but the paper's authors from the response on
+-- before the discussion a reader is shown of another's form on a paper at most its label's ordinal and the mark that it
+-- is there, unless the reader is an author of the paper and the phase is the response
 abbrev pub FormsEarly : Type 0
 FormsEarly =
     (u : Option ℕ) (p : ℕ) (H : History) → IsFalse (is_past_reviewing (phase_of H))
@@ -190,14 +216,14 @@ FormsEarly =
     → s ≡ record (blank kinds.Reviewed) { paper = s.paper; ordinal = s.ordinal; done = s.done })
     (view u H)
 
--- authors may learn of others' forms on their papers: from the notification on, or from the response on if it was
--- opened
+-- a paper's authors may learn of forms on it: the phase is the notification or later, or it is the response or later
+-- and the response was opened
 abbrev pub may_learn_forms : History → Bool
 may_learn_forms H =
     is_past_discussion (phase_of H)
     || (is_response_or_later (phase_of H) && list_any (λ (e : Stamped). begins_response e.entry) H)
 
--- a paper's authors are shown others' forms on it only then, and never what is for the committee
+-- a paper's authors are shown others' forms on it only if they may learn of forms, and never the text to the committee
 abbrev pub FormsFromAuthors : Type 0
 FormsFromAuthors =
     (u : Option ℕ) (p : ℕ) (H : History) → IsTrue (is_author u p H)
@@ -210,31 +236,32 @@ CommentsFromAuthors =
     (u : Option ℕ) (p : ℕ) (H : History) → IsTrue (is_author u p H)
     → All (λ (s : Sighting). IsFalse (is_others kinds.Commented p s || is_others kinds.Tagged p s)) (view u H)
 
--- in the anonymous mode nobody but a chair in no conflict with the paper is shown who comments on it
+-- in the anonymous mode only a chair in no conflict with the paper is shown who comments on it
 abbrev pub WritersUnnamed : Type 0
 WritersUnnamed =
     (u : Option ℕ) (p : ℕ) (H : History) → IsFalse (administers u p H) → IsTrue (hides_reviewers (mode_of H))
     → All (λ (s : Sighting). IsTrue (is_kind kinds.Commented s && is_number s.paper p) → s.by ≡ None) (view u H)
 
--- only the paper's authors and, from the discussion on, those who discuss the paper are shown that there is a
--- response; no user is shown which author wrote it
+-- only the paper's authors, those who discuss it and the user who made the entry are shown that there is a response to
+-- its reviews; no user is shown which author wrote it
 abbrev pub ResponsesShown : Type 0
 ResponsesShown =
     (u : Option ℕ) (p : ℕ) (H : History)
     → All (λ (s : Sighting). IsTrue (is_kind kinds.Responded s && is_number s.paper p)
     → IsTrue (s.mine || is_author u p H || discusses u p H) × (s.by ≡ None)) (view u H)
 
--- the tag that is shown is so
+-- a tag is shown, and this holds of it
 abbrev pub is_tag_so : (List ℕ → Bool) → Option (List ℕ) → Bool
 is_tag_so test None = false
 is_tag_so test (Some tag) = test tag
 
--- nobody is shown another's private tag, and nobody but a chair in no conflict with the paper another's tag for chairs
+-- a reader is shown no private tag that another user set
 abbrev pub PrivateTagsAreOwn : Type 0
 PrivateTagsAreOwn =
     (u : Option ℕ) (p : ℕ) (H : History)
     → All (λ (s : Sighting). IsFalse (is_others kinds.Tagged p s && is_tag_so is_setters s.tag)) (view u H)
 
+-- only users who oversee the paper are shown a tag for chairs that another user set
 abbrev pub ChairsTags : Type 0
 ChairsTags =
     (u : Option ℕ) (p : ℕ) (H : History) → IsFalse (oversees u p H)
@@ -242,14 +269,14 @@ ChairsTags =
 
 -- ---- decisions
 
--- before the notification nobody but those who discuss a paper is shown that there is a decision on it
+-- before the notification only users who discuss a paper are shown that there is another's decision on it
 abbrev pub DecisionsEarly : Type 0
 DecisionsEarly =
     (u : Option ℕ) (p : ℕ) (H : History) → IsFalse (discusses u p H) → IsFalse (is_past_discussion (phase_of H))
     → All (λ (s : Sighting). IsFalse (is_others kinds.Decided p s)) (view u H)
 
--- nobody but they and the paper's authors is ever shown more than that it is accepted, and
--- that where it is in the programme
+-- a user who neither wrote the paper nor discusses it is shown of another's decision on it at most that the paper is
+-- accepted, and this only if the paper is in the programme
 abbrev pub DecisionsUntold : Type 0
 DecisionsUntold =
     (u : Option ℕ) (p : ℕ) (H : History) → IsFalse (is_author u p H || discusses u p H)
@@ -260,22 +287,24 @@ DecisionsUntold =
 
 -- ---- earlier texts, contents and decisions
 
--- the part that a sighting shows of the paper, whatever kind of entry it is of, where another than the reader made it
+-- this part of the sighting as a list of at most one: there if another than the reader made the entry, it is on the
+-- paper, and the part is shown
 abbrev pub part_shown : {A : Type 0} → (Sighting → Option A) → ℕ → Sighting → List A
 part_shown part p s = only (is_number s.paper p && not s.mine) (listed (part s))
 
--- of the titles that others gave a paper, a user who isn't its author is shown at most one; so of its abstracts and
--- its contents
+-- of the titles that others gave a paper, a user who isn't its author is shown at most one
 abbrev pub OneTitle : Type 0
 OneTitle =
     (u : Option ℕ) (p : ℕ) (H : History) → IsFalse (is_author u p H)
     → length (flat_map (part_shown (λ (s : Sighting). s.title) p) (view u H)) ≤ 1
 
+-- of the abstracts that others gave a paper, a user who isn't its author is shown at most one
 abbrev pub OneAbstract : Type 0
 OneAbstract =
     (u : Option ℕ) (p : ℕ) (H : History) → IsFalse (is_author u p H)
     → length (flat_map (part_shown (λ (s : Sighting). s.abstract) p) (view u H)) ≤ 1
 
+-- of the contents that others gave a paper, a user who isn't its author is shown at most one
 abbrev pub OneContent : Type 0
 OneContent =
     (u : Option ℕ) (p : ℕ) (H : History) → IsFalse (is_author u p H)
@@ -289,15 +318,17 @@ OneDecision =
 
 -- ---- who neither wrote a paper, nor is eligible for it, nor reads it as an external
 
--- what lets a user know more of a paper who neither wrote it, nor is eligible for it, nor reads it as an external:
--- whether they serve, whether they administer the paper, whether it is in the programme, and whether it is published
+-- what a user may know of a paper who isn't its author, isn't eligible for it and doesn't read it as an external goes
+-- by: whether they serve, whether they administer the paper, whether it is in the programme, and whether it is
+-- published
 pub record Outsider : Type 0 where
   pub serving : Bool
   pub administering : Bool
   pub announced : Bool
   pub appearing : Bool
 
--- what this kind of entry shows with only its paper; of the reader's own also that it is, its time and its number
+-- a sighting of an entry of this kind with only its paper and, if the entry is the reader's own, this mark, its
+-- timestamp and its number
 abbrev pub as_hers : EntryKind → Sighting → Sighting
 as_hers kind s =
     record (blank kind) {
@@ -307,11 +338,14 @@ as_hers kind s =
       key = if s.mine then s.key else None;
     }
 
--- all that a sighting on a paper has for her: the number; the title where she serves, and that it is withdrawn; the
--- whole of a conflict, an assignment or an invitation that names her; the whole of what she made; where she administers
--- the paper before the bidding the whole of each assignment and invitation, and under which labels there is a form;
--- of a paper in the programme that it is accepted, its authors and its title; and of one that appears its abstract
--- and its content
+-- what such a user is shown of a sighting of this kind on the paper, at most:
+-- the paper's number; if they serve, its title and that it is withdrawn;
+-- the whole of a conflict, an assignment, its end, an invitation and its end, if it names the user;
+-- the whole of what the user made;
+-- if they administer the paper, which such a user does only before the bidding, the whole of each assignment and
+-- invitation and of their ends, and under which labels there is a form;
+-- of a paper in the programme that it is accepted, its authors and its title; of one that is published its abstract and
+-- content too
 abbrev pub IsLeft : Option ℕ → Outsider → EntryKind → Sighting → Type 0
 IsLeft u is kinds.Registered s = ⊥
 IsLeft u is kinds.Named s = ⊥
@@ -382,7 +416,7 @@ IsLeft u is kinds.Decided s =
       accepted = if is.announced then s.accepted else None;
     })
 
--- what the user is to the paper, as an outsider
+-- what IsLeft goes by, for this user and paper at the end of a history
 abbrev pub outsider : Option ℕ → ℕ → History → Outsider
 outsider u p H = record {
   serving = serves u H;
@@ -391,8 +425,9 @@ outsider u p H = record {
   appearing = appears p H;
 }
 
--- so of any other than an author: one in conflict, one who isn't on the committee and no external, and all before the
--- bidding
+-- a user who isn't an author of the paper, isn't eligible for it and doesn't read it as an external is shown of it at
+-- most what IsLeft has: a member in conflict, a user who is neither a member nor an external, and before the bidding
+-- every user but its authors
 abbrev pub OutsidersShown : Type 0
 OutsidersShown =
     (u : Option ℕ) (p : ℕ) (H : History) → IsFalse (is_author u p H || is_eligible u p H || reads_visiting u p H)
@@ -400,15 +435,16 @@ OutsidersShown =
 
 -- ---- externals
 
--- what lets an external know more of a paper that they read: whether the mode names its authors, and whether it is in
--- the programme
+-- what an external's reading of a paper goes by: whether the mode names its authors to them, and whether it is in the
+-- programme
 pub record Visit : Type 0 where
   pub naming : Bool
   pub announced : Bool
 
--- all that a sighting on it has for her, which neither is her own nor names her: the last title and abstract, the
--- content, that it is withdrawn, its authors where they are named, and of a paper in the programme that it is accepted;
--- never another's bid, comment, tag or form, nor a response, nor who else reviews it
+-- what an external who reads a paper is shown at most of a sighting of this kind on it that isn't the external's own
+-- and doesn't name them: the last title and abstract, the last content, that it is withdrawn, its authors if they are
+-- named or the paper is in the programme, and that a paper in the programme is accepted.
+-- Never another's bid, comment, tag or form, nor a response, nor who else reviews it.
 abbrev pub IsVisitors : Visit → EntryKind → Sighting → Type 0
 IsVisitors is kinds.Submitted s =
     s ≡ record (blank kinds.Submitted) {
@@ -428,11 +464,12 @@ IsVisitors is kinds.Decided s =
     IsTrue is.announced × (s ≡ record (blank kinds.Decided) { paper = s.paper; accepted = Some true })
 IsVisitors is _ s = ⊥
 
+-- what IsVisitors goes by, for this paper at the end of a history
 abbrev pub visit : ℕ → History → Visit
 visit p H = record { naming = not (hides_authors (mode_of H)); announced = is_in_programme p H }
 
--- ExternalsShown: of a paper that she reads as an external she is shown that, beside her own entries and those that
--- name her
+-- a user who reads a paper as an external is shown of it at most what IsVisitors has, besides the user's own entries
+-- and those that name the user
 abbrev pub ExternalsShown : Type 0
 ExternalsShown =
     (u : Option ℕ) (p : ℕ) (H : History) → IsTrue (reads_visiting u p H)
@@ -441,11 +478,12 @@ ExternalsShown =
     → IsVisitors (visit p H) s.kind s)
     (view u H)
 
--- ---- strangers, and nobody
+-- ---- strangers, and unauthenticated callers
 
--- all that is public of an entry: accounts with their names and roles, dismissals, phases, modes, deadlines, and the
--- papers' numbers; of a paper in the programme that it is accepted, its authors and its last title; and of one that
--- appears its last abstract and content
+-- what is public of a sighting of this kind, by whether its paper is in the programme and whether it is published:
+-- accounts with their names and roles, dismissals, phases, modes, deadlines, and the papers' numbers; of a paper in the
+-- programme that it is accepted, its authors and its last title; of one that is published its last abstract and content
+-- too
 abbrev pub IsPublic : Bool → Bool → EntryKind → Sighting → Type 0
 IsPublic announced appearing kinds.Registered s = s ≡ record (blank kinds.Registered) { user = s.user; name = s.name }
 IsPublic announced appearing kinds.Named s = s ≡ record (blank kinds.Named) { user = s.user; role = s.role }
@@ -487,7 +525,7 @@ IsPublic announced appearing kinds.Tagged s = ⊥
 IsPublic announced appearing kinds.Decided s =
     IsTrue announced × (s ≡ record (blank kinds.Decided) { paper = s.paper; accepted = Some true })
 
--- what the sighting has is public, by what became of its paper
+-- the sighting shows at most what is public, by what became of its paper in the history
 abbrev pub IsPublicIn : History → Sighting → Type 0
 IsPublicIn H s = IsPublic (at_some (λ p. is_in_programme p H) s.paper) (at_some (λ p. appears p H) s.paper) s.kind s
 
@@ -501,8 +539,8 @@ names_her u (Invited paper user) = is_number u user
 names_her u (Uninvited paper user) = is_number u user
 names_her u _ = false
 
--- the entry is one of those that chairs are told of in every phase: it assigns a reviewer, unassigns one, invites
--- somebody to a paper, takes that back, or is a form
+-- the entry is one of those of which chairs in no conflict with the paper are told in every phase: an assignment, its
+-- end, an invitation, its end, or a form
 abbrev pub is_reviewing : Entry → Bool
 is_reviewing (Assigned paper user review_kind ordinal) = true
 is_reviewing (Unassigned paper user ordinal) = true
@@ -511,16 +549,16 @@ is_reviewing (Uninvited paper user) = true
 is_reviewing (Reviewed paper ordinal version form) = true
 is_reviewing _ = false
 
--- the user wrote nothing, doesn't serve, no entry on a paper names them, and they are no chair where somebody was
--- assigned or invited, or has reviewed
+-- the user is an author of no paper and doesn't serve, no entry on a paper names the user, and the user isn't a chair
+-- if the history has an assignment, an invitation, an end of one, or a form
 pub record IsStranger (u : Option ℕ) (H : History) : Type 0 where
   pub author : (p : ℕ) → IsFalse (is_author u p H)
   pub serving : IsFalse (serves u H)
   pub named : IsFalse (list_any (λ (e : Stamped). names_her u e.entry) H)
   pub leading : IsFalse (chairs_committee (role_of u H) && list_any (λ (e : Stamped). is_reviewing e.entry) H)
 
--- AccountsShown: who isn't on the committee is shown of a paper of which she is no author and no external what is
--- public, beside her own entries and those that name her: to all other papers an external is a stranger
+-- a user who isn't on the committee, and neither an author nor an external of the paper, is shown of it at most what is
+-- public, besides the user's own entries and those that name the user
 abbrev pub AccountsShown : Type 0
 AccountsShown =
     (u : Option ℕ) (p : ℕ) (H : History) → IsFalse (is_on_committee (role_of u H) || is_author u p H || visits u p H)
@@ -528,11 +566,11 @@ AccountsShown =
     (λ (s : Sighting). IsTrue (is_number s.paper p) → IsFalse (s.mine || is_user u s.user) → IsPublicIn H s)
     (view u H)
 
--- strangers are shown what is public, and their own entries
+-- a stranger is shown at most what is public, besides the user's own entries
 abbrev pub StrangersShown : Type 0
 StrangersShown =
     (u : Option ℕ) (H : History) → IsStranger u H → All (λ (s : Sighting). IsFalse s.mine → IsPublicIn H s) (view u H)
 
--- nobody is shown what is public
+-- an unauthenticated caller is shown at most what is public
 abbrev pub NobodyShown : Type 0
 NobodyShown = (H : History) → All (λ (s : Sighting). IsPublicIn H s) (view None H)

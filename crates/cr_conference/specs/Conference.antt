@@ -1,6 +1,6 @@
 -- A small conference, from its first registration to its close: nine users, three papers, and every kind of entry but
--- a response. In its twin alice assigns another member to paper 1. What the committee says that no author reads is
--- whatever it is, and its chairs may decide otherwise than they do.
+-- a response. In its twin alice assigns another member to paper 1. It is a function of the digests of secrets, the
+-- mode, what the committee says that no author reads (Asides), and what the chairs decide (Verdicts).
 use Rattle.std.specs.Prelude.{ℕ, ◌≡◌, ◌+◌, true, false, List, [], ◌∷◌, ◌++◌, length}
 use Rattle.std.specs.Prelude.{Option, Some, None, codes, ◌==◌, if◌then◌else◌, IsTrue}
 use Rattle.cr_base.specs.declared.entry.Entry.{Entry}
@@ -55,14 +55,15 @@ fay = 6
 abbrev pub gus : ℕ
 gus = 7
 
--- a member in no conflict, who reviews paper 1 in the twin alone
+-- a member in no conflict, who reviews paper 1 only in the twin
 abbrev pub hal : ℕ
 hal = 8
 
--- a member who is dismissed, and is then an external of paper 2, which she reviews
+-- a member who is dismissed, and is then an external of paper 2 and reviews it
 abbrev pub ivy : ℕ
 ivy = 9
 
+-- the nine users, in the order of their registration
 abbrev pub cast : List ℕ
 cast = alice ∷ bob ∷ carol ∷ dave ∷ erin ∷ fay ∷ gus ∷ hal ∷ ivy ∷ []
 
@@ -78,6 +79,7 @@ pub record Digests : Type 0 where
   pub hal : List ℕ
   pub ivy : List ℕ
 
+-- each digest has 32 bytes
 pub record AreDigests (d : Digests) : Type 0 where
   pub alice : length d.alice ≡ 32
   pub bob : length d.bob ≡ 32
@@ -91,77 +93,94 @@ pub record AreDigests (d : Digests) : Type 0 where
 
 -- ---- texts
 
--- the texts of the three papers, and those that paper 1 is given later
+-- the title of paper 1
 abbrev pub proofs : List ℕ
 proofs = codes "Proofs"
 
+-- the abstract of paper 1
 abbrev pub we_prove : List ℕ
 we_prove = codes "We prove."
 
+-- the title of paper 2
 abbrev pub types : List ℕ
 types = codes "Types"
 
+-- the abstract of paper 2
 abbrev pub we_type : List ℕ
 we_type = codes "We type."
 
+-- the title of paper 3
 abbrev pub drafts : List ℕ
 drafts = codes "Drafts"
 
+-- the abstract of paper 3
 abbrev pub we_draft : List ℕ
 we_draft = codes "We draft."
 
+-- the title of paper 1 after its first revision
 abbrev pub fewer_proofs : List ℕ
 fewer_proofs = codes "Fewer proofs"
 
+-- the abstract of paper 1 after its first revision
 abbrev pub we_prove_less : List ℕ
 we_prove_less = codes "We prove less."
 
+-- the title of paper 1 after its second revision
 abbrev pub more_proofs : List ℕ
 more_proofs = codes "More proofs"
 
+-- the abstract of paper 1 after its second revision
 abbrev pub we_prove_more : List ℕ
 we_prove_more = codes "We prove more."
 
--- the two versions of paper 1, and the one of paper 2
+-- the first version of the content of paper 1
 abbrev pub first_version : List ℕ
 first_version = codes "Let x be."
 
+-- the second version of the content of paper 1
 abbrev pub second_version : List ℕ
 second_version = codes "Let x be, and y."
 
+-- the content of paper 2
 abbrev pub only_version : List ℕ
 only_version = codes "x : A"
 
--- what the committee says that no author reads: how dave's own tag goes on, what the last form tells the
--- committee alone, and the first comment
+-- what the committee says that no author reads: how dave's own tag goes on, the last form's text to the committee, and
+-- the first comment
 pub record Asides : Type 0 where
   pub tag : List ℕ
   pub to_pc : List ℕ
   pub comment : List ℕ
 
--- a tag for all, dave's own, and one for chairs
+-- a tag for the committee
 abbrev pub hot : List ℕ
 hot = codes "hot"
 
+-- dave's own tag
 abbrev pub own_tag : Asides → List ℕ
 own_tag a = codes "~x" ++ a.tag
 
+-- a tag for chairs
 abbrev pub chairs_tag : List ℕ
 chairs_tag = codes "~~x"
 
--- three forms of the member who reviews paper 1, one of alice's, and one of ivy's of paper 2
+-- the first form of the member who reviews paper 1
 abbrev pub first_form : Form
 first_form = record { score = 2; confidence = 3; to_authors = codes "Weak."; to_pc = codes "New to me." }
 
+-- the second form of the member who reviews paper 1
 abbrev pub second_form : Form
 second_form = record { score = 3; confidence = 4; to_authors = codes "Fair."; to_pc = codes "I read on." }
 
+-- the last form of the member who reviews paper 1
 abbrev pub last_form : Asides → Form
 last_form a = record { score = 5; confidence = 4; to_authors = codes "Good."; to_pc = a.to_pc }
 
+-- alice's form of paper 1
 abbrev pub alices_form : Form
 alices_form = record { score = 4; confidence = 2; to_authors = codes "Thin."; to_pc = codes "Take it." }
 
+-- ivy's form of paper 2
 abbrev pub ivys_form : Form
 ivys_form = record { score = 1; confidence = 5; to_authors = codes "Old."; to_pc = codes "No." }
 
@@ -169,7 +188,7 @@ ivys_form = record { score = 1; confidence = 5; to_authors = codes "Old."; to_pc
 abbrev pub agreed : List ℕ
 agreed = codes "Agreed."
 
--- what is said so is within its bounds
+-- what the committee says is within its bounds
 pub record AreAsides (a : Asides) : Type 0 where
   pub tag : IsTrue (is_tag (own_tag a))
   pub to_pc : IsReviewText a.to_pc
@@ -177,16 +196,16 @@ pub record AreAsides (a : Asides) : Type 0 where
 
 -- ---- what they do
 
--- a day after the moment of every request here
+-- a day after the timestamp of every request here
 abbrev pub next_morning : ℕ
 next_morning = morning + 86400
 
--- an entry that is all of its command
+-- `user adds e`: the entry e, which the user made, as the only one of its command
 infix 90 ◌adds◌
 abbrev pub ◌adds◌ : ℕ → Entry → Stamped
 user adds entry = stamped (stamp_by user morning None) false entry
 
--- all register; alice, the first, is a chair by that
+-- all have registered; alice, the first, is a chair for that
 abbrev pub registered : Digests → History
 registered d =
     stamped (stamp_by alice morning None) true (Registered alice (codes "alice") d.alice)
@@ -201,8 +220,8 @@ registered d =
     ∷ ivy adds Registered ivy (codes "ivy") d.ivy
     ∷ []
 
--- alice names the others of the committee, and ivy, whom she dismisses, sets the mode, opens submission and sets its
--- deadline
+-- alice appoints the others of the committee, and ivy, whom she dismisses, sets the mode, opens the submission and sets
+-- its deadline
 abbrev pub opened : Digests → Mode → History
 opened d mode =
     registered d
@@ -217,7 +236,7 @@ opened d mode =
     ∷ alice adds DeadlineSet Submission (Some next_morning)
     ∷ []
 
--- bob submits paper 1 with gus, by a number of his own, and gus submits two of his
+-- bob submits paper 1 with gus, by a command with a number, and gus submits papers 2 and 3
 abbrev pub submitted : Digests → Mode → History
 submitted d mode =
     opened d mode
@@ -227,8 +246,8 @@ submitted d mode =
     ∷ gus adds Submitted 3 drafts we_draft
     ∷ []
 
--- bob uploads two versions of paper 1, and gus one of paper 2 between them; bob revises the texts of paper 1, and then
--- gus, who withdraws paper 3; bob declares carol in conflict with paper 1, and gus declares fay
+-- bob uploads two versions of paper 1, and gus one of paper 2 between them; bob revises paper 1, and then gus does, who
+-- withdraws paper 3; bob declares carol in conflict with paper 1, and gus declares fay
 abbrev pub before_bidding : Digests → Mode → History
 before_bidding d mode =
     submitted d mode
@@ -242,8 +261,8 @@ before_bidding d mode =
     ∷ gus adds Conflict 1 fay true
     ∷ []
 
--- alice opens the bidding, and turns fay's conflict off; fay declares it herself; dave declares one of his with
--- paper 2, and alice turns that off
+-- alice opens the bidding, and turns fay's conflict off; fay declares it herself; dave declares a conflict of his own
+-- with paper 2, and alice turns that off
 abbrev pub opened_bidding : Digests → Mode → History
 opened_bidding d mode =
     before_bidding d mode
@@ -264,8 +283,8 @@ having_bids d mode =
     ∷ dave adds Bid 1 40
     ∷ []
 
--- dave tags paper 1 for all, and for himself, and alice for chairs; hal turns the first tag off;
--- and fay tags paper 2 for chairs
+-- dave sets the committee's tag and his own at paper 1, and alice the chairs'; hal turns the first off; fay sets the
+-- chairs' tag at paper 2
 abbrev pub having_tags : Digests → Mode → Asides → History
 having_tags d mode a =
     having_bids d mode
@@ -276,8 +295,8 @@ having_tags d mode a =
     ∷ fay adds Tagged 2 chairs_tag true
     ∷ []
 
--- alice assigns a member to paper 1, dave or in the twin hal, and herself, and fay to paper 2; she invites ivy to
--- paper 1, and takes that back, and to paper 2, to which she assigns her
+-- alice assigns a member to paper 1 (dave, or hal in the twin), herself too, and fay to paper 2; she invites ivy to
+-- paper 1, ends that invitation, invites her to paper 2, and assigns her to it
 abbrev pub in_bidding : Digests → Mode → Asides → ℕ → History
 in_bidding d mode a reviewer =
     having_tags d mode a
@@ -290,8 +309,8 @@ in_bidding d mode a reviewer =
     ∷ alice adds Assigned 2 ivy Secondary 2
     ∷ []
 
--- she opens the reviewing, takes the member off paper 1 and assigns the same one again, under the next label; the
--- member writes two forms, and alice one between them; and ivy writes one of paper 2
+-- alice opens the reviewing, unassigns the member from paper 1 and assigns the same one again, under the next label;
+-- the member writes two forms, and alice one between them; ivy writes one of paper 2
 abbrev pub in_reviewing : Digests → Mode → Asides → ℕ → History
 in_reviewing d mode a reviewer =
     in_bidding d mode a reviewer
@@ -308,7 +327,8 @@ in_reviewing d mode a reviewer =
 abbrev pub other_than : ℕ → ℕ
 other_than reviewer = if reviewer == dave then hal else dave
 
--- she opens the discussion; the member writes a last form, and comments on paper 1, and so does the other one
+-- alice opens the discussion; the member writes a last form, and comments on paper 1, and the other of dave and hal
+-- does
 abbrev pub having_comments : Digests → Mode → Asides → ℕ → History
 having_comments d mode a reviewer =
     in_reviewing d mode a reviewer
@@ -320,32 +340,34 @@ having_comments d mode a reviewer =
 
 -- ---- what the chairs decide
 
--- on paper 2, which fay decides; and on paper 1, where alice may decide twice. Each is left undecided, or decided so
+-- what the chairs decide: fay on paper 2, and alice on paper 1, at most twice; each decision may be left out
 pub record Verdicts : Type 0 where
   pub other : Option Decision
   pub first : Option Decision
   pub last : Option Decision
 
--- paper 2 is rejected; paper 1 is rejected first, and then accepted
+-- paper 2 is rejected; paper 1 is first rejected, and then accepted
 abbrev pub verdicts : Verdicts
 verdicts = record { other = Some Reject; first = Some Reject; last = Some Accept }
 
--- and the other way round: paper 2 is accepted; paper 1 is accepted first, and then rejected
+-- paper 2 is accepted; paper 1 is first accepted, and then rejected
 abbrev pub reversed : Verdicts
 reversed = record { other = Some Accept; first = Some Accept; last = Some Reject }
 
+-- the user's decision on the paper, if there is one
 abbrev pub decides : ℕ → ℕ → Option Decision → History
 decides chair paper None = []
 decides chair paper (Some decision) = chair adds Decided paper decision ∷ []
 
--- the whole discussion
+-- the history up to the end of the discussion
 abbrev pub in_discussion : Digests → Mode → Asides → ℕ → Verdicts → History
 in_discussion d mode a reviewer v =
     having_comments d mode a reviewer ++ decides fay 2 v.other ++ decides alice 1 v.first ++ decides alice 1 v.last
 
--- alice opens the notification, and then closes the conference
+-- alice opens the notification
 abbrev pub at_notification : Digests → Mode → Asides → ℕ → Verdicts → History
 at_notification d mode a reviewer v = in_discussion d mode a reviewer v ++ alice adds PhaseSet Notification ∷ []
 
+-- alice closes the conference
 abbrev pub at_close : Digests → Mode → Asides → ℕ → Verdicts → History
 at_close d mode a reviewer v = at_notification d mode a reviewer v ++ alice adds PhaseSet Closed ∷ []

@@ -1,6 +1,6 @@
--- The laws of the small conference: it is legal, its readers see what is written of them, and those who may
--- not know who reviews a paper, what the committee says of it, or what is decided of it, see the same
--- whoever does, and whatever that is.
+-- The laws of the small conference: it is legal, and its readers' views are those that are written down. Readers who
+-- may not know who reviews a paper, what the committee says of it, or what is decided on it, have views that don't
+-- depend on these.
 use Rattle.std.specs.Prelude.{ℕ, ◌≡◌, List, [], ◌∷◌, ◌++◌, Option, Some, None, map, filter, IsFalse}
 use Rattle.cr_base.specs.declared.words.Decision.{Decision}
 use Rattle.cr_base.specs.declared.words.Decision.TheVariants.{Accept, Reject}
@@ -32,8 +32,8 @@ use Rattle.cr_conference.specs.ConferenceResponse.{views_in_response, views_behi
 abbrev pub accepted_of : History → List ℕ
 accepted_of H = filter (λ paper. is_accepted paper H) (papers_of H)
 
--- who of the nine is what: their roles, and of each paper its authors, those who are in conflict with it, its
--- reviewers, its externals and the last decision on it; and which papers are withdrawn, and which accepted
+-- what each of the nine users is: their roles; of each paper its authors, those in conflict with it, its reviewers, its
+-- externals and the last decision on it; and which papers are withdrawn, and which accepted
 pub record Casting : Type 0 where
   pub roles : List Role
   pub authors : List (List ℕ)
@@ -44,6 +44,7 @@ pub record Casting : Type 0 where
   pub decisions : List (Option Decision)
   pub accepted : List ℕ
 
+-- what each of the nine users is at the end of this history
 abbrev pub casting_of : History → Casting
 casting_of H = record {
   roles = map (λ user. role_of (Some user) H) cast;
@@ -56,9 +57,9 @@ casting_of H = record {
   accepted = accepted_of H;
 }
 
--- alice, carol, dave, fay and hal are the committee, and of it carol and fay are in conflict with
--- paper 1 and nobody with the others;
--- bob and gus wrote paper 1, and gus alone papers 2 and 3, of which the last is withdrawn; no decision is made yet
+-- the casting with these reviewers and externals. alice, carol, dave, fay and hal are the committee; carol and fay are
+-- in conflict with paper 1, and no member with the others. bob and gus wrote paper 1, and gus papers 2 and 3, of which
+-- the last is withdrawn. No decision is made yet.
 abbrev pub reviewed_by : List (List SeatTold) → List (List ℕ) → Casting
 reviewed_by reviewers externals = record {
   roles = Chair ∷ Account ∷ Member ∷ Member ∷ Account ∷ Chair ∷ Account ∷ Member ∷ Account ∷ [];
@@ -71,35 +72,38 @@ reviewed_by reviewers externals = record {
   accepted = [];
 }
 
+-- the history is legal, and the users are what this casting says
 pub record IsConference (H : History) (casting : Casting) : Type 0 where
   pub legal : Legal H
   pub cast : casting_of H ≡ casting
 
--- a reviewer by her label, as what, and who she is
+-- a reviewer: the ordinal of the label, the kind, and the user
 abbrev pub reviewing : ℕ → Kind → ℕ → SeatTold
 reviewing ordinal kind user = record { ordinal = ordinal; kind = Some kind; user = Some user }
 
--- who reviews before the bidding; in it, where this member is assigned to paper 1, and ivy, an external of paper 2,
--- reviews that; and once the same one is assigned again
+-- the casting before the bidding: no paper has a reviewer
 abbrev pub by_none : Casting
 by_none = reviewed_by ([] ∷ [] ∷ [] ∷ []) ([] ∷ [] ∷ [] ∷ [])
 
+-- the casting in which paper 1 has these reviewers, and fay and the external ivy review paper 2
 abbrev pub with_ivy : List SeatTold → Casting
 with_ivy first =
     reviewed_by (first ∷ (reviewing 1 Pc fay ∷ reviewing 2 Secondary ivy ∷ []) ∷ [] ∷ []) ([] ∷ (ivy ∷ []) ∷ [] ∷ [])
 
+-- the casting in the bidding, after this member was assigned to paper 1
 abbrev pub by_first : ℕ → Casting
 by_first member = with_ivy (reviewing 1 Primary member ∷ reviewing 2 Secondary alice ∷ [])
 
+-- the casting from the reviewing on, after this member was assigned again
 abbrev pub by_last : ℕ → Casting
 by_last member = with_ivy (reviewing 2 Secondary alice ∷ reviewing 3 Pc member ∷ [])
 
--- and once the chairs have decided, where these papers are accepted
+-- the casting after the chairs have decided, if these papers are accepted
 abbrev pub decided_by : ℕ → List ℕ → Casting
 decided_by member accepted =
     record (by_last member) { decisions = Some Accept ∷ Some Reject ∷ None ∷ []; accepted = accepted }
 
--- in each phase from the bidding on, where this member is assigned to paper 1
+-- what the conference is in each phase from the bidding on, if this member is assigned to paper 1
 pub record IsReviewed (d : Digests) (mode : Mode) (a : Asides) (member : ℕ) : Type 0 where
   pub bidding : IsConference (in_bidding d mode a member) (by_first member)
   pub reviewing : IsConference (in_reviewing d mode a member) (by_last member)
@@ -107,19 +111,20 @@ pub record IsReviewed (d : Digests) (mode : Mode) (a : Asides) (member : ℕ) : 
   pub notification : IsConference (at_notification d mode a member verdicts) (decided_by member (1 ∷ []))
   pub closed : IsConference (at_close d mode a member verdicts) (decided_by member (1 ∷ []))
 
--- and whatever they decide
+-- the conference is legal in each phase from the discussion on, whatever the chairs decide
 pub record IsDecided (d : Digests) (mode : Mode) (a : Asides) (v : Verdicts) : Type 0 where
   pub discussion : Legal (in_discussion d mode a dave v)
   pub notification : Legal (at_notification d mode a dave v)
   pub closed : Legal (at_close d mode a dave v)
 
--- and where it has a response, whoever of the two is assigned
+-- what the conference with a response is from there on, if this member is assigned to paper 1
 pub record IsResponded (d : Digests) (mode : Mode) (a : Asides) (member : ℕ) : Type 0 where
   pub response : IsConference (in_response d mode a member) (by_last member)
   pub discussion : IsConference (behind_response d mode a member) (by_last member)
   pub notification : IsConference (told_behind_response d mode a member) (by_last member)
 
--- the conference, its twin, what it is with other decisions, and with a response
+-- the conference and its twin, with other decisions and with a response, are legal, and the users are what the castings
+-- say
 pub record IsLegal (d : Digests) (mode : Mode) (a : Asides) : Type 0 where
   pub before : IsConference (before_bidding d mode) by_none
   pub reviewed : IsReviewed d mode a dave
@@ -128,11 +133,13 @@ pub record IsLegal (d : Digests) (mode : Mode) (a : Asides) : Type 0 where
   pub responded : IsResponded d mode a dave
   pub responded_twin : IsResponded d mode a hal
 
+-- IsLegal holds, whatever the digests, the mode and what the committee says
 abbrev pub ConferenceLegal : Type 0
 ConferenceLegal = (d : Digests) (mode : Mode) (a : Asides) → AreDigests d → AreAsides a → IsLegal d mode a
 
 -- ---- what each reader sees of it
 
+-- the views of all kinds of readers at the end of a history
 abbrev pub views_of : History → Views
 views_of H = record {
   nobody = view None H;
@@ -147,29 +154,35 @@ views_of H = record {
   conflicted_chair = view (Some fay) H;
 }
 
--- these are the views that the readers have of the history, whatever the digests, in each mode
--- and whatever the committee says
+-- these are the readers' views of this history, whatever the digests, the mode and what the committee says
 abbrev pub AreViews : (Digests → Mode → Asides → History) → (Digests → Mode → Asides → Views) → Type 0
 AreViews history views = (d : Digests) (mode : Mode) (a : Asides) → views_of (history d mode a) ≡ views d mode a
 
+-- the readers' views before the bidding
 abbrev pub ViewsBeforeBidding : Type 0
 ViewsBeforeBidding = AreViews (λ d mode a. before_bidding d mode) (λ d mode a. views_before d mode)
 
+-- the readers' views in the bidding
 abbrev pub ViewsInBidding : Type 0
 ViewsInBidding = AreViews (λ d mode a. in_bidding d mode a dave) views_in_bidding
 
+-- the readers' views in the reviewing
 abbrev pub ViewsInReviewing : Type 0
 ViewsInReviewing = AreViews (λ d mode a. in_reviewing d mode a dave) views_in_reviewing
 
+-- the readers' views in the discussion
 abbrev pub ViewsInDiscussion : Type 0
 ViewsInDiscussion = AreViews (λ d mode a. in_discussion d mode a dave verdicts) views_in_discussion
 
+-- the readers' views at the notification
 abbrev pub ViewsAtNotification : Type 0
 ViewsAtNotification = AreViews (λ d mode a. at_notification d mode a dave verdicts) views_at_notification
 
+-- the readers' views at the close
 abbrev pub ViewsAtClose : Type 0
 ViewsAtClose = AreViews (λ d mode a. at_close d mode a dave verdicts) views_at_close
 
+-- the views of readers who aren't on the committee, at the end of a history
 abbrev pub outside_of : History → Outside
 outside_of H = record {
   nobody = view None H;
@@ -178,18 +191,21 @@ outside_of H = record {
   coauthor = view (Some gus) H;
 }
 
+-- the views of readers who aren't on the committee, at the close of the conference with the other decisions
 abbrev pub ViewsReversed : Type 0
 ViewsReversed =
     (d : Digests) (mode : Mode) (a : Asides)
     → outside_of (at_close d mode a dave reversed) ≡ reversed_at_close d mode a
 
--- where it has a response: in it, in the discussion, and at the notification
+-- the readers' views in the response
 abbrev pub ViewsInResponse : Type 0
 ViewsInResponse = AreViews (λ d mode a. in_response d mode a dave) views_in_response
 
+-- the readers' views in the discussion after a response
 abbrev pub ViewsBehindResponse : Type 0
 ViewsBehindResponse = AreViews (λ d mode a. behind_response d mode a dave) views_behind_response
 
+-- the views of readers who aren't on the committee, at the notification after a response
 abbrev pub ViewsTold : Type 0
 ViewsTold =
     (d : Digests) (mode : Mode) (a : Asides)
@@ -197,8 +213,8 @@ ViewsTold =
 
 -- ---- its twins
 
--- what the reader sees in each phase from the bidding to the discussion, where the committee says this, and
--- this member is assigned to paper 1
+-- what the reader sees in each phase from the bidding to the discussion, if the committee says this, and this member is
+-- assigned to paper 1
 abbrev pub seen_to_discussion : ℕ → Digests → Mode → Asides → ℕ → List View
 seen_to_discussion reader d mode a member =
     view (Some reader) (in_bidding d mode a member)
@@ -206,7 +222,8 @@ seen_to_discussion reader d mode a member =
     ∷ view (Some reader) (in_discussion d mode a member verdicts)
     ∷ []
 
--- and to the close
+-- what the reader sees in each phase from the bidding to the close, if the committee says this, and this member is
+-- assigned to paper 1
 abbrev pub seen_throughout : ℕ → Digests → Mode → Asides → ℕ → List View
 seen_throughout reader d mode a member =
     seen_to_discussion reader d mode a member
@@ -214,9 +231,9 @@ seen_throughout reader d mode a member =
     ∷ view (Some reader) (at_close d mode a member verdicts)
     ∷ []
 
--- whether dave or hal is assigned to the paper, writes its forms and comments on it under their label, its
--- authors see the same up to the discussion, and later but in the open mode; and a member and a chair in conflict
--- with it see the same throughout
+-- whether dave or hal is assigned to paper 1, writes its forms and comments on it under that label: the views of its
+-- authors are the same up to the discussion, and later except in the open mode; those of a member and a chair in
+-- conflict with it are the same throughout
 pub record Twins (d : Digests) (mode : Mode) (a : Asides) : Type 0 where
   pub author : seen_to_discussion bob d mode a dave ≡ seen_to_discussion bob d mode a hal
   pub author_throughout : IsFalse (is_overt mode)
@@ -227,45 +244,52 @@ pub record Twins (d : Digests) (mode : Mode) (a : Asides) : Type 0 where
   pub conflicted_member : seen_throughout carol d mode a dave ≡ seen_throughout carol d mode a hal
   pub conflicted_chair : seen_throughout fay d mode a dave ≡ seen_throughout fay d mode a hal
 
+-- Twins holds, whatever the digests, the mode and what the committee says
 abbrev pub TwinsAlike : Type 0
 TwinsAlike = (d : Digests) (mode : Mode) (a : Asides) → Twins d mode a
 
--- so it is where authors respond, to the discussion behind it
+-- what the reader sees in the response and in the discussion after it, if the committee says this, and this member is
+-- assigned to paper 1
 abbrev pub seen_in_response : ℕ → Digests → Mode → Asides → ℕ → List View
 seen_in_response reader d mode a member =
     view (Some reader) (in_response d mode a member) ∷ view (Some reader) (behind_response d mode a member) ∷ []
 
+-- whether dave or hal is assigned to paper 1 in the conference with a response: the views of its authors, and of a
+-- member and a chair in conflict with it, are the same in the response and in the discussion after it
 pub record ResponseTwins (d : Digests) (mode : Mode) (a : Asides) : Type 0 where
   pub author : seen_in_response bob d mode a dave ≡ seen_in_response bob d mode a hal
   pub coauthor : seen_in_response gus d mode a dave ≡ seen_in_response gus d mode a hal
   pub conflicted_member : seen_in_response carol d mode a dave ≡ seen_in_response carol d mode a hal
   pub conflicted_chair : seen_in_response fay d mode a dave ≡ seen_in_response fay d mode a hal
 
+-- ResponseTwins holds, whatever the digests, the mode and what the committee says
 abbrev pub RespondedAlike : Type 0
 RespondedAlike = (d : Digests) (mode : Mode) (a : Asides) → ResponseTwins d mode a
 
--- whether the committee says this or that where no author reads it, the paper's authors, and a member and a chair in
--- conflict with it, see the same throughout
+-- the views of paper 1's authors, and of a member and a chair in conflict with it, don't depend on what the committee
+-- says that no author reads
 pub record SameWithout (d : Digests) (mode : Mode) (a b : Asides) : Type 0 where
   pub author : seen_throughout bob d mode a dave ≡ seen_throughout bob d mode b dave
   pub coauthor : seen_throughout gus d mode a dave ≡ seen_throughout gus d mode b dave
   pub conflicted_member : seen_throughout carol d mode a dave ≡ seen_throughout carol d mode b dave
   pub conflicted_chair : seen_throughout fay d mode a dave ≡ seen_throughout fay d mode b dave
 
+-- SameWithout holds, whatever the digests and the mode
 abbrev pub AsidesHidden : Type 0
 AsidesHidden = (d : Digests) (mode : Mode) (a b : Asides) → SameWithout d mode a b
 
 -- ---- other decisions
 
--- what a reader sees in the discussion, where the chairs decide so; and from the notification on
+-- what a reader sees in the discussion, if the chairs decide this
 abbrev pub seen_in_discussion : Option ℕ → Digests → Mode → Asides → Verdicts → View
 seen_in_discussion u d mode a v = view u (in_discussion d mode a dave v)
 
+-- what a reader sees at the notification and at the close, if the chairs decide this
 abbrev pub seen_from_notification : Option ℕ → Digests → Mode → Asides → Verdicts → List View
 seen_from_notification u d mode a v = view u (at_notification d mode a dave v) ∷ view u (at_close d mode a dave v) ∷ []
 
--- before the notification who isn't on the committee sees the same whatever is decided, and so do a member and a chair
--- in conflict with paper 1 whatever is decided of that
+-- before the notification the views of readers who aren't on the committee don't depend on what is decided; those of a
+-- member and a chair in conflict with paper 1 don't depend on what is decided on it
 pub record SameEarly (d : Digests) (mode : Mode) (a : Asides) (v w : Verdicts) : Type 0 where
   pub nobody : seen_in_discussion None d mode a v ≡ seen_in_discussion None d mode a w
   pub account : seen_in_discussion (Some erin) d mode a v ≡ seen_in_discussion (Some erin) d mode a w
@@ -276,15 +300,17 @@ pub record SameEarly (d : Digests) (mode : Mode) (a : Asides) (v w : Verdicts) :
   pub conflicted_chair : v.other ≡ w.other
       → seen_in_discussion (Some fay) d mode a v ≡ seen_in_discussion (Some fay) d mode a w
 
--- the papers that are accepted where the chairs decide so, and the last decision on a paper
+-- the papers that are accepted, if the chairs decide this
 abbrev pub accepted_with : Digests → Mode → Asides → Verdicts → List ℕ
 accepted_with d mode a v = accepted_of (at_notification d mode a dave v)
 
+-- the last decision on a paper, if the chairs decide this
 abbrev pub outcome_with : ℕ → Digests → Mode → Asides → Verdicts → Option Decision
 outcome_with paper d mode a v = decision_of paper (at_notification d mode a dave v)
 
--- from it on they do where the same papers are accepted; and so do authors where the last decision
--- on each of their own is the same
+-- from the notification on, if the same papers are accepted, the views of readers who aren't on the committee, and of a
+-- member and a chair in conflict with paper 1, don't depend on what else is decided; for authors if the last decision
+-- on each of their own papers is the same too
 pub record SameLate (d : Digests) (mode : Mode) (a : Asides) (v w : Verdicts) : Type 0 where
   pub nobody : seen_from_notification None d mode a v ≡ seen_from_notification None d mode a w
   pub account : seen_from_notification (Some erin) d mode a v ≡ seen_from_notification (Some erin) d mode a w
@@ -301,10 +327,11 @@ pub record SameLate (d : Digests) (mode : Mode) (a : Asides) (v w : Verdicts) : 
   pub conflicted_chair :
       v.other ≡ w.other → seen_from_notification (Some fay) d mode a v ≡ seen_from_notification (Some fay) d mode a w
 
--- two conferences that differ only in what the chairs decide
+-- what two conferences share that differ only in what the chairs decide
 pub record VerdictTwins (d : Digests) (mode : Mode) (a : Asides) (v w : Verdicts) : Type 0 where
   pub early : SameEarly d mode a v w
   pub late : accepted_with d mode a v ≡ accepted_with d mode a w → SameLate d mode a v w
 
+-- VerdictTwins holds, whatever the digests, the mode, what the committee says and the two decisions
 abbrev pub VerdictsHidden : Type 0
 VerdictsHidden = (d : Digests) (mode : Mode) (a : Asides) (v w : Verdicts) → VerdictTwins d mode a v w

@@ -1,5 +1,5 @@
--- What each reader sees of the small conference in the discussion, at the notification and at the close: the
--- whole of her view, a line an entry.
+-- What each reader sees of the small conference in the discussion, at the notification and at the close: whole views, a
+-- line an entry.
 use Rattle.std.specs.Prelude.{[], ◌∷◌, ◌++◌}
 use Rattle.cr_base.specs.declared.words.Decision.TheVariants.{Accept, Reject}
 use Rattle.cr_base.specs.declared.words.Kind.TheVariants.{Primary, Secondary, Pc}
@@ -23,9 +23,9 @@ use Rattle.cr_conference.specs.ConferenceViews.{views_in_reviewing}
 
 -- ---- in the discussion
 
--- a member in no conflict: every assignment, from the bidding on, but not who it is where the mode is
--- anonymous; of each label the last form that was written before the discussion, and all later ones, whole; and
--- every comment, with his own label
+-- the view of hal, a member in no conflict, up to the comments: every assignment, from the bidding on, but not who it
+-- is if the mode is anonymous; of each label the last form before the discussion, and all later ones, whole; and every
+-- comment, with his own label
 abbrev pub hal_to_comments : Digests → Mode → Asides → View → View
 hal_to_comments d mode a head =
     hal_to_bidding d mode head
@@ -45,7 +45,7 @@ hal_to_comments d mode a head =
     ∷ own_comment mode hal 0 1 2 agreed
     ∷ []
 
--- one who reviews paper 1: the same, and his own assignments and forms whole
+-- the view of dave, who reviews paper 1, up to the comments: what hal sees, and his own assignments and forms whole
 abbrev pub dave_to_comments : Digests → Mode → Asides → View → View
 dave_to_comments d mode a head =
     dave_to_tags d mode a head
@@ -66,11 +66,11 @@ dave_to_comments d mode a head =
     ∷ comment_to_members mode hal 0 1 2 agreed
     ∷ []
 
--- both are shown every decision
+-- what both are shown of decisions: every one
 abbrev pub all_decided : View
 all_decided = decided 2 Reject ∷ decided 1 Reject ∷ decided 1 Accept ∷ []
 
--- a member in conflict with paper 1: of the other papers what any member sees
+-- the view of carol, a member in conflict with paper 1: of the other papers what any member sees
 abbrev pub carol_to_decisions : Digests → Mode → View → View → View
 carol_to_decisions d mode head texts =
     carol_to_bidding d mode head texts
@@ -82,8 +82,8 @@ carol_to_decisions d mode head texts =
     ∷ decided 2 Reject
     ∷ []
 
--- a chair in no conflict: every assignment and what is done, as before; of the forms what any member sees; every
--- comment, and who wrote it; and every decision
+-- the view of alice, a chair in no conflict, up to the comments: every assignment, and the marks of forms as before; of
+-- the forms what any member sees; every comment, and who wrote it
 abbrev pub alice_to_comments : Digests → Mode → Asides → View
 alice_to_comments d mode a =
     alice_to_forms d mode
@@ -95,11 +95,12 @@ alice_to_comments d mode a =
     ∷ comment_by hal 1 2 agreed
     ∷ []
 
+-- the view of alice in the discussion: that, and every decision
 abbrev pub alice_in_discussion : Digests → Mode → Asides → View
 alice_in_discussion d mode a =
     alice_to_comments d mode a ++ decided 2 Reject ∷ mine (decided 1 Reject) ∷ mine (decided 1 Accept) ∷ []
 
--- a chair in conflict with paper 1: the form of paper 2, and the decision on it, which is her own
+-- the view of fay, a chair in conflict with paper 1: the form of paper 2, and the decision on it, which is her own
 abbrev pub fay_to_decisions : Digests → Mode → View → View → View
 fay_to_decisions d mode head texts =
     fay_to_bidding d mode head texts
@@ -109,7 +110,8 @@ fay_to_decisions d mode head texts =
     ∷ mine (decided 2 Reject)
     ∷ []
 
--- of paper 1 the committee is shown what it was in the bidding. All others, authors among them: the phase
+-- all views in the discussion. Of paper 1's texts the committee is shown what it was in the bidding. All others,
+-- authors among them, are shown the phase.
 abbrev pub views_in_discussion : Digests → Mode → Asides → Views
 views_in_discussion d mode a = record (opened_to Discussion (views_in_reviewing d mode a)) {
   member = hal_to_comments d mode a (head_to_members mode) ++ all_decided;
@@ -121,9 +123,10 @@ views_in_discussion d mode a = record (opened_to Discussion (views_in_reviewing 
 
 -- ---- at the notification
 
--- an author of paper 1, from the reviewing on: of each label the last form, but not its number and what is
--- for the committee; in the open mode who was assigned and unassigned, and under which labels, but not as
--- what; and what became of her papers. The view is a function of what is shown of forms of paper 2
+-- what an author of paper 1 sees from the reviewing on, at the notification: of each label the last form, without its
+-- number and its text to the committee; in the open mode who was assigned and unassigned, and under which labels, but
+-- not whether they are the primary, the secondary or another; and what became of the author's papers. It is a function
+-- of what is shown of forms of paper 2.
 abbrev pub results : Mode → Asides → View → View → View
 results Overt a forms outcomes =
     phase_set Reviewing
@@ -146,15 +149,16 @@ results mode a forms outcomes =
     ++ phase_set Notification
     ∷ []
 
--- of paper 1 the last decision, by which it is accepted; and of paper 2
+-- what an author of paper 1 is shown of decisions: the last one, by which it is accepted
 abbrev pub outcome_of_1 : View
 outcome_of_1 = as_accepted (as_outcome (decided 1 Accept)) ∷ []
 
+-- what the author of both papers is shown of decisions: the last one on each
 abbrev pub outcomes_of_both : View
 outcomes_of_both = as_outcome (decided 2 Reject) ∷ outcome_of_1
 
--- so behind what she saw before the bidding, and in the open mode who was assigned in it too; and a
--- co-author, who wrote paper 2 as well
+-- the view of bob at the notification: that before the bidding, in the open mode who was assigned in it, and then
+-- `results`
 abbrev pub bob_told : Mode → Asides → View → View → View
 bob_told Overt a before outcomes =
     before
@@ -164,9 +168,11 @@ bob_told Overt a before outcomes =
     ∷ results Overt a [] outcomes
 bob_told mode a before outcomes = before ++ phase_set Bidding ∷ results mode a [] outcomes
 
+-- what the author of paper 2 is shown of the form on it
 abbrev pub form_of_2 : View
 form_of_2 = form_to_authors 2 2 ivys_form ∷ []
 
+-- the view of gus, a co-author of paper 1 who wrote paper 2 as well, at the notification
 abbrev pub gus_told : Mode → Asides → View → View → View
 gus_told Overt a before outcomes =
     before
@@ -178,8 +184,8 @@ gus_told Overt a before outcomes =
     ∷ results Overt a form_of_2 outcomes
 gus_told mode a before outcomes = before ++ phase_set Bidding ∷ results mode a form_of_2 outcomes
 
--- everyone else: these lines of papers 1 and 2, and which of them is accepted; who wrote none, and is on no
--- committee, of paper 3 that it is there
+-- what a reader who wrote no paper and isn't on the committee is shown of the papers: these lines of papers 1 and 2,
+-- that paper 3 is there, and which of the first two is accepted
 abbrev pub programme : View → View → View → View
 programme papers texts accepted =
     papers
@@ -192,16 +198,16 @@ programme papers texts accepted =
     ++ phase_set Notification
     ∷ []
 
--- of paper 1, which is accepted, who wrote it, and its last title; of paper 2 that it is there
+-- what everyone is shown of paper 1, which is accepted: who wrote it, and its last title; of paper 2 that it is there
 abbrev pub programme_of_1 : View → View
 programme_of_1 texts = programme (head_by_authors ++ bare_paper 2 ∷ []) texts (acceptance 1 ∷ [])
 
--- a member in no conflict: so who wrote it in the anonymous mode too; all decisions, as
--- before, and which one accepts it
+-- what a member in no conflict is shown of decisions at the notification: all, as before, and which one accepts a
+-- paper. Who wrote the paper is shown in the anonymous mode too.
 abbrev pub all_told : View
 all_told = decided 2 Reject ∷ decided 1 Reject ∷ as_accepted (decided 1 Accept) ∷ phase_set Notification ∷ []
 
--- a chair in no conflict the same; and one in conflict, or a member, that it is accepted
+-- the view of alice at the notification
 abbrev pub alice_at_notification : Digests → Mode → Asides → View
 alice_at_notification d mode a =
     alice_to_comments d mode a
@@ -211,14 +217,16 @@ alice_at_notification d mode a =
     ∷ mine (phase_set Notification)
     ∷ []
 
+-- what a member or a chair in conflict with paper 1 is shown of the decisions on it: that it is accepted
 abbrev pub told_in_conflict : View
 told_in_conflict = acceptance 1 ∷ phase_set Notification ∷ []
 
--- and so an external of paper 2 of paper 1, and who wrote that
+-- the view of ivy, an external of paper 2, up to the notification: of paper 1 that it is accepted, and who wrote it
 abbrev pub ivy_to_notification : Digests → Mode → View → View
 ivy_to_notification d mode texts =
     ivy_to_reviewing d mode head_by_authors texts ++ phase_set Discussion ∷ told_in_conflict
 
+-- all views at the notification
 abbrev pub views_at_notification : Digests → Mode → Asides → Views
 views_at_notification d mode a = record {
   nobody = opening_to_nobody mode ++ programme_of_1 title_alone;
@@ -235,8 +243,8 @@ views_at_notification d mode a = record {
 
 -- ---- at the close
 
--- everyone: of paper 1 the last version and the last abstract too, which authors and members
--- in no conflict have seen already
+-- all views at the close: everyone is shown the last version and the last abstract of paper 1 too, which its authors
+-- and members in no conflict have seen already
 abbrev pub views_at_close : Digests → Mode → Asides → Views
 views_at_close d mode a =
     let seen = views_at_notification d mode a in
@@ -250,15 +258,15 @@ views_at_close d mode a =
 
 -- ---- decided the other way round
 
--- what is seen by who isn't on the committee
+-- the views of readers who aren't on the committee
 pub record Outside : Type 0 where
   pub nobody : View
   pub account : View
   pub author : View
   pub coauthor : View
 
--- of paper 2, which is accepted then, who wrote it, and its texts, which never changed; of paper 1,
--- which is not, that it is there
+-- what everyone is shown at the close if the decisions are the other way round: of paper 2, which is accepted, who
+-- wrote it, and its texts; of paper 1, which isn't, that it is there
 abbrev pub programme_of_2 : View
 programme_of_2 =
     programme
@@ -268,7 +276,7 @@ programme_of_2 =
     ++ phase_set Closed
     ∷ []
 
--- at the close
+-- the views of readers who aren't on the committee at the close, if the decisions are the other way round
 abbrev pub reversed_at_close : Digests → Mode → Asides → Outside
 reversed_at_close d mode a = record {
   nobody = opening_to_nobody mode ++ programme_of_2;

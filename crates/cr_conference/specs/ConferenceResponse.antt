@@ -1,5 +1,5 @@
--- The small conference where its chairs open the response, and bob responds: what it is then, in the discussion behind
--- it, and at the notification; and what each reader sees of it, a line an entry.
+-- The small conference with a response, which bob writes: the histories in the response, in the discussion after it,
+-- and at the notification, and what each reader sees of them, a line an entry.
 use Rattle.std.specs.Prelude.{ℕ, List, [], ◌∷◌, ◌++◌, Some, codes}
 use Rattle.cr_base.specs.declared.entry.Entry.TheVariants.{PhaseSet, Reviewed, Responded}
 use Rattle.cr_base.specs.declared.entry.EntryKind.TheVariants as kinds
@@ -22,19 +22,20 @@ use Rattle.cr_conference.specs.ConferenceViews.{carol_to_bidding, fay_to_bidding
 
 -- ---- what they do
 
--- what bob responds; and fay's form of paper 2, which she writes in the discussion, and none before
+-- what bob responds
 abbrev pub you_are_right : List ℕ
 you_are_right = codes "You are right."
 
+-- fay's form of paper 2, which she writes in the discussion, and none before
 abbrev pub late_form : Form
 late_form = record { score = 4; confidence = 1; to_authors = codes "Fine."; to_pc = codes "At last." }
 
--- alice opens the response once the forms of the reviewing are written, and bob responds
+-- alice opens the response after the forms of the reviewing, and bob responds
 abbrev pub in_response : Digests → Mode → Asides → ℕ → History
 in_response d mode a reviewer =
     in_reviewing d mode a reviewer ++ alice adds PhaseSet Response ∷ bob adds Responded 1 you_are_right ∷ []
 
--- she opens the discussion, in which the member who reviews paper 1 writes a last form, and fay one of paper 2
+-- alice opens the discussion, in which the member who reviews paper 1 writes a last form, and fay one of paper 2
 abbrev pub behind_response : Digests → Mode → Asides → ℕ → History
 behind_response d mode a reviewer =
     in_response d mode a reviewer
@@ -43,17 +44,18 @@ behind_response d mode a reviewer =
     ∷ fay adds Reviewed 2 1 1 late_form
     ∷ []
 
--- and the notification, where nothing is decided
+-- alice opens the notification, and nothing is decided
 abbrev pub told_behind_response : Digests → Mode → Asides → ℕ → History
 told_behind_response d mode a reviewer = behind_response d mode a reviewer ++ alice adds PhaseSet Notification ∷ []
 
 -- ---- what is seen in the response
 
--- what was responded: not who did
+-- what is shown of a response: its text, not who wrote it
 abbrev pub response : ℕ → List ℕ → Sighting
 response paper text = record (blank kinds.Responded) { paper = Some paper; text = Some text }
 
--- an author of paper 1: of each label the last form, in each mode without who wrote it; and the response
+-- the view of bob, an author of paper 1, in the response: of each label the last form, in each mode without who wrote
+-- it; and his response
 abbrev pub bob_in_response : Digests → Mode → View
 bob_in_response d mode =
     bob_before d mode
@@ -65,7 +67,7 @@ bob_in_response d mode =
     ∷ mine (response 1 you_are_right)
     ∷ []
 
--- a co-author, who wrote paper 2 as well, the same of both
+-- the view of gus, who wrote paper 2 as well, in the response: of both papers what their authors are shown
 abbrev pub gus_in_response : Digests → Mode → View
 gus_in_response d mode =
     gus_before d mode
@@ -78,7 +80,7 @@ gus_in_response d mode =
     ∷ response 1 you_are_right
     ∷ []
 
--- all others: the phase
+-- all views in the response: all others are shown the phase
 abbrev pub views_in_response : Digests → Mode → Asides → Views
 views_in_response d mode a = record (opened_to Response (views_in_reviewing d mode a)) {
   author = bob_in_response d mode;
@@ -87,7 +89,8 @@ views_in_response d mode a = record (opened_to Response (views_in_reviewing d mo
 
 -- ---- and in the discussion behind it
 
--- a member in no conflict: what the discussion shows, and the response
+-- the view of hal, a member in no conflict, in the discussion after the response: what the discussion shows, and the
+-- response
 abbrev pub hal_behind_response : Digests → Mode → Asides → View
 hal_behind_response d mode a =
     hal_to_bidding d mode (head_to_members mode)
@@ -108,7 +111,8 @@ hal_behind_response d mode a =
     ∷ form 2 1 1 late_form
     ∷ []
 
--- one who reviews paper 1 the same, and his own assignments and forms
+-- the view of dave, who reviews paper 1, in the discussion after the response: what hal sees, and his own assignments
+-- and forms
 abbrev pub dave_behind_response : Digests → Mode → Asides → View
 dave_behind_response d mode a =
     dave_to_tags d mode a (head_to_members mode)
@@ -130,7 +134,8 @@ dave_behind_response d mode a =
     ∷ form 2 1 1 late_form
     ∷ []
 
--- a member and a chair in conflict with paper 1: nothing of that, and of paper 2 what the discussion shows
+-- the view of carol, a member in conflict with paper 1, in the discussion after the response: nothing of it, and of
+-- paper 2 what the discussion shows
 abbrev pub carol_behind_response : Digests → Mode → View
 carol_behind_response d mode =
     carol_to_bidding d mode bare_head title_alone
@@ -143,6 +148,8 @@ carol_behind_response d mode =
     ∷ form 2 1 1 late_form
     ∷ []
 
+-- the view of fay, a chair in conflict with paper 1, in the discussion after the response: nothing of it, and of paper
+-- 2 what the discussion shows
 abbrev pub fay_behind_response : Digests → Mode → View
 fay_behind_response d mode =
     fay_to_bidding d mode bare_head title_alone
@@ -153,7 +160,7 @@ fay_behind_response d mode =
     ∷ mine (as_done (form 2 1 1 late_form))
     ∷ []
 
--- a chair in no conflict: all of it
+-- the view of alice, a chair in no conflict, in the discussion after the response: all of it
 abbrev pub alice_behind_response : Digests → Mode → Asides → View
 alice_behind_response d mode a =
     alice_to_forms d mode
@@ -166,7 +173,7 @@ alice_behind_response d mode a =
     ∷ as_done (form 2 1 1 late_form)
     ∷ []
 
--- authors and all others: the phase
+-- all views in the discussion after the response: authors and all others are shown the phase
 abbrev pub views_behind_response : Digests → Mode → Asides → Views
 views_behind_response d mode a = record (opened_to Discussion (views_in_response d mode a)) {
   member = hal_behind_response d mode a;
@@ -178,9 +185,9 @@ views_behind_response d mode a = record (opened_to Discussion (views_in_response
 
 -- ---- and at the notification
 
--- an author of paper 1, from its first form on: of each label the form to which they responded, and the last one; else
--- as without a response. The view is a function of what is shown of paper 2, in the reviewing and behind the response,
--- and of the response
+-- what an author of paper 1 is shown at the notification, from its first form on: of each label the form to which they
+-- responded, and the last one; else what is shown without a response. It is a function of what is shown of paper 2, in
+-- the reviewing and after the response, and of the response.
 abbrev pub forms_behind : Asides → View → View → Sighting → View
 forms_behind a forms late responded =
     form_to_authors 1 2 alices_form
@@ -194,7 +201,7 @@ forms_behind a forms late responded =
     ++ phase_set Notification
     ∷ []
 
--- and from the reviewing on
+-- what an author of paper 1 is shown at the notification, from the reviewing on
 abbrev pub told_behind : Mode → Asides → View → View → Sighting → View
 told_behind Overt a forms late responded =
     phase_set Reviewing
@@ -203,6 +210,7 @@ told_behind Overt a forms late responded =
     ∷ forms_behind a forms late responded
 told_behind mode a forms late responded = phase_set Reviewing ∷ forms_behind a forms late responded
 
+-- the view of bob at the notification after the response
 abbrev pub bob_behind : Digests → Mode → Asides → View
 bob_behind d Overt a =
     bob_before d Overt
@@ -213,6 +221,7 @@ bob_behind d Overt a =
 bob_behind d mode a =
     bob_before d mode ++ phase_set Bidding ∷ told_behind mode a [] [] (mine (response 1 you_are_right))
 
+-- the view of gus at the notification after the response
 abbrev pub gus_behind : Digests → Mode → Asides → View
 gus_behind d Overt a =
     gus_before d Overt
@@ -229,7 +238,7 @@ gus_behind d mode a =
     ∷ told_behind mode a (form_to_authors 2 2 ivys_form ∷ []) (form_to_authors 2 1 late_form ∷ [])
     (response 1 you_are_right)
 
--- whoever is on no committee, and wrote nothing: the phases
+-- what a reader who isn't on the committee and wrote nothing is shown from the bidding on: the phases
 abbrev pub phases_to_notification : View
 phases_to_notification =
     phase_set Bidding
@@ -239,6 +248,7 @@ phases_to_notification =
     ∷ phase_set Notification
     ∷ []
 
+-- the views of readers who aren't on the committee at the notification after the response
 abbrev pub told_outside : Digests → Mode → Asides → Outside
 told_outside d mode a = record {
   nobody = opening_to_nobody mode ++ bare_papers ++ phases_to_notification;

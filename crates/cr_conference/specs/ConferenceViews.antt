@@ -1,5 +1,5 @@
--- What each reader sees of the small conference, before the bidding, in it and in the reviewing: the
--- whole of her view, a line an entry.
+-- What each reader sees of the small conference, before the bidding, in it and in the reviewing: whole views, a line an
+-- entry.
 use Rattle.std.specs.Prelude.{ℕ, Bool, true, false, List, [], ◌∷◌, ◌++◌, Some, None, codes, ◌==◌, if◌then◌else◌}
 use Rattle.cr_base.specs.declared.entry.EntryKind.TheVariants as kinds
 use Rattle.cr_base.specs.declared.form.Form.{Form}
@@ -28,75 +28,82 @@ use Rattle.cr_conference.specs.Conference.{first_form, second_form, alices_form,
 abbrev pub account : ℕ → List ℕ → Sighting
 account user name = record (blank kinds.Registered) { user = Some user; name = Some name }
 
--- the reader's own, with it
+-- the reader's own account, with its digest
 abbrev pub own_account : ℕ → List ℕ → List ℕ → Sighting
 own_account user name digest =
     record (account user name) { mine = true; digest = Some digest; at = Some morning; key = Some None }
 
+-- that a user is appointed to a role
 abbrev pub role_given : ℕ → Role → Sighting
 role_given user role = record (blank kinds.Named) { user = Some user; role = Some role }
 
--- that she is dismissed
+-- that a user is dismissed
 abbrev pub dismissal : ℕ → Sighting
 dismissal user = record (blank kinds.Dismissed) { user = Some user }
 
+-- that the mode is set
 abbrev pub mode_set : Mode → Sighting
 mode_set mode = record (blank kinds.ModeSet) { mode = Some mode }
 
+-- that the phase is set
 abbrev pub phase_set : Phase → Sighting
 phase_set phase = record (blank kinds.PhaseSet) { phase = Some phase }
 
+-- that a phase's deadline is set
 abbrev pub deadline_set : Phase → ℕ → Sighting
 deadline_set phase until = record (blank kinds.DeadlineSet) { phase = Some phase; until = Some (Some until) }
 
--- that there is this paper, and nothing of it
+-- that there is this paper, and nothing else of it
 abbrev pub bare_paper : ℕ → Sighting
 bare_paper paper = record (blank kinds.Submitted) { paper = Some paper }
 
--- who submitted it, and none of its texts
+-- who submitted the paper, and none of its texts
 abbrev pub bare_paper_by : ℕ → ℕ → Sighting
 bare_paper_by user paper = record (bare_paper paper) { by = Some user }
 
--- its title and its abstract
+-- the paper's title and abstract
 abbrev pub both_texts : ℕ → List ℕ → List ℕ → Sighting
 both_texts paper title abstract = record (bare_paper paper) { title = Some title; abstract = Some abstract }
 
--- both, and who submitted it
+-- the paper's title and abstract, and who submitted it
 abbrev pub both_texts_by : ℕ → ℕ → List ℕ → List ℕ → Sighting
 both_texts_by user paper title abstract = record (both_texts paper title abstract) { by = Some user }
 
--- that somebody is a co-author
+-- that a user is a co-author of the paper
 abbrev pub coauthor : ℕ → ℕ → Sighting
 coauthor paper user = record (blank kinds.Coauthor) { paper = Some paper; user = Some user }
 
--- the title that a paper is given later, and the abstract with it
+-- the title that a revision gives the paper
 abbrev pub new_title : ℕ → List ℕ → Sighting
 new_title paper title = record (blank kinds.Revised) { paper = Some paper; title = Some title }
 
+-- the title and the abstract that a revision gives the paper
 abbrev pub new_texts : ℕ → List ℕ → List ℕ → Sighting
 new_texts paper title abstract = record (new_title paper title) { abstract = Some abstract }
 
--- a version of its content
+-- a version of the paper's content
 abbrev pub upload : ℕ → ℕ → List ℕ → Sighting
 upload paper version content =
     record (blank kinds.Uploaded) { paper = Some paper; version = Some version; content = Some content }
 
--- that it is withdrawn
+-- that the paper is withdrawn
 abbrev pub withdrawal : ℕ → Sighting
 withdrawal paper = record (blank kinds.Withdrawn) { paper = Some paper }
 
--- that somebody's conflict with the paper is turned on or off
+-- that a user's conflict with the paper is turned on or off
 abbrev pub conflict : ℕ → ℕ → Bool → Sighting
 conflict paper user on = record (blank kinds.Conflict) { paper = Some paper; user = Some user; on = Some on }
 
--- a bid, kept plus 20, and one of which it is told whose it is
+-- a bid on the paper, kept plus 20
 abbrev pub bid : ℕ → ℕ → Sighting
 bid paper value = record (blank kinds.Bid) { paper = Some paper; value = Some value }
 
+-- a bid on the paper, kept plus 20, and who made it
 abbrev pub bid_by : ℕ → ℕ → ℕ → Sighting
 bid_by user paper value = record (bid paper value) { by = Some user }
 
--- that somebody is assigned to the paper, as what, and the ordinal of her label; and that she no longer is
+-- that a user is assigned to the paper, as the primary, the secondary or another reviewer, and the ordinal of their
+-- label
 abbrev pub assignment : ℕ → ℕ → Kind → ℕ → Sighting
 assignment paper user kind ordinal = record (blank kinds.Assigned) {
   paper = Some paper;
@@ -105,28 +112,31 @@ assignment paper user kind ordinal = record (blank kinds.Assigned) {
   ordinal = Some ordinal;
 }
 
+-- that the user with the label of this ordinal is unassigned from the paper
 abbrev pub unassignment : ℕ → ℕ → ℕ → Sighting
 unassignment paper user ordinal =
     record (blank kinds.Unassigned) { paper = Some paper; user = Some user; ordinal = Some ordinal }
 
--- that somebody is invited to the paper from outside the committee; and that she no longer is
+-- that a user is invited to the paper as an external
 abbrev pub invitation : ℕ → ℕ → Sighting
 invitation paper user = record (blank kinds.Invited) { paper = Some paper; user = Some user }
 
+-- that a user's invitation to the paper has ended
 abbrev pub uninvitation : ℕ → ℕ → Sighting
 uninvitation paper user = record (blank kinds.Uninvited) { paper = Some paper; user = Some user }
 
--- of a submission, or of an assignment or its end, what members are shown who don't oversee the paper: not who it
--- is where the mode is anonymous
+-- what members who don't oversee the paper are shown of a submission, an assignment or its end: not who it is if the
+-- mode is anonymous
 abbrev pub to_members : Mode → Sighting → Sighting
 to_members Anonymous line = record line { by = None; user = None }
 to_members mode line = line
 
--- and what authors are shown who are named their reviewers: not as what
+-- what authors who are told their reviewers are shown of an assignment or its end: not whether they are the primary,
+-- the secondary or another
 abbrev pub to_authors : Sighting → Sighting
 to_authors line = record line { review_kind = None }
 
--- a form, whole; and that there is one under the label, which may be all that is told of it
+-- a form, whole
 abbrev pub form : ℕ → ℕ → ℕ → Form → Sighting
 form paper ordinal version written = record (blank kinds.Reviewed) {
   paper = Some paper;
@@ -138,31 +148,35 @@ form paper ordinal version written = record (blank kinds.Reviewed) {
   to_pc = Some written.to_pc;
 }
 
+-- the sighting with the mark that there is a form under the label
 abbrev pub as_done : Sighting → Sighting
 as_done line = record line { done = Some true }
 
+-- that there is a form under the label, and nothing else of it
 abbrev pub form_done : ℕ → ℕ → Sighting
 form_done paper ordinal = as_done (record (blank kinds.Reviewed) { paper = Some paper; ordinal = Some ordinal })
 
--- what authors are shown of a form: not its number, and not what is for the committee
+-- what authors are shown of a form: not its number, and not its text to the committee
 abbrev pub form_to_authors : ℕ → ℕ → Form → Sighting
 form_to_authors paper ordinal written = record (form paper ordinal 0 written) { version = None; to_pc = None }
 
--- a comment, of which it is told who wrote it, or under which label
+-- a comment, with who wrote it
 abbrev pub comment_by : ℕ → ℕ → ℕ → List ℕ → Sighting
 comment_by user paper n text =
     record (blank kinds.Commented) { paper = Some paper; n = Some n; text = Some text; by = Some user }
 
+-- a comment, with the writer's label; 0 if the writer doesn't review the paper
 abbrev pub comment_under : ℕ → ℕ → ℕ → List ℕ → Sighting
 comment_under ordinal paper n text =
     record (blank kinds.Commented) { paper = Some paper; n = Some n; text = Some text; ordinal = Some ordinal }
 
--- which of the two members are shown who don't oversee the paper, and what whoever wrote it is shown: the label too.
--- The ordinal is 0 where she doesn't review the paper
+-- what members who don't oversee the paper are shown of a comment: who wrote it, or under which label, by the mode; the
+-- ordinal is 0 if the writer doesn't review the paper
 abbrev pub comment_to_members : Mode → ℕ → ℕ → ℕ → ℕ → List ℕ → Sighting
 comment_to_members Anonymous user ordinal paper n text = comment_under ordinal paper n text
 comment_to_members mode user ordinal paper n text = comment_by user paper n text
 
+-- what the writer of a comment is shown of it: what members are, and the label too
 abbrev pub own_comment : Mode → ℕ → ℕ → ℕ → ℕ → List ℕ → Sighting
 own_comment mode user ordinal paper n text =
     record (comment_to_members mode user ordinal paper n text) {
@@ -176,30 +190,33 @@ own_comment mode user ordinal paper n text =
 abbrev pub tagging : ℕ → List ℕ → Bool → Sighting
 tagging paper tag on = record (blank kinds.Tagged) { paper = Some paper; tag = Some tag; on = Some on }
 
--- what is decided of the paper; and where that is what became of the reader's own
+-- what is decided on the paper
 abbrev pub decided : ℕ → Decision → Sighting
 decided paper decision = record (blank kinds.Decided) { paper = Some paper; decision = Some decision }
 
+-- the sighting with the mark that the decision is what became of the reader's own paper
 abbrev pub as_outcome : Sighting → Sighting
 as_outcome line = record line { outcome = Some true }
 
--- the line of a decision by which the paper is accepted; and that it is, without the decision
+-- the sighting with the mark that the paper is accepted
 abbrev pub as_accepted : Sighting → Sighting
 as_accepted line = record line { accepted = Some true }
 
+-- that the paper is accepted, without the decision
 abbrev pub acceptance : ℕ → Sighting
 acceptance paper = as_accepted (record (blank kinds.Decided) { paper = Some paper })
 
--- the line of an entry that the reader made
+-- the sighting of an entry that the reader made
 abbrev pub mine : Sighting → Sighting
 mine line = record line { mine = true; at = Some morning; key = Some None }
 
--- and which she made by the command with the number
+-- the sighting of an entry that the reader made by the command with a number
 abbrev pub mine_by_number : Sighting → Sighting
 mine_by_number line = record (mine line) { key = Some (Some some_key) }
 
 -- ---- a view for each kind of reader
 
+-- the views of all kinds of readers
 pub record Views : Type 0 where
   pub nobody : View
   pub account : View
@@ -212,7 +229,7 @@ pub record Views : Type 0 where
   pub chair : View
   pub conflicted_chair : View
 
--- the same, once alice has opened the phase
+-- these views after alice has opened the phase
 abbrev pub opened_to : Phase → Views → Views
 opened_to phase seen = record {
   nobody = seen.nobody ++ phase_set phase ∷ [];
@@ -230,6 +247,7 @@ opened_to phase seen = record {
 -- ---- registrations, roles, mode, phase and deadline: all is public but the digests, and each reader's own lines are
 -- marked
 
+-- what an unauthenticated caller is shown of the registrations, roles, mode, phase and deadline
 abbrev pub opening_to_nobody : Mode → View
 opening_to_nobody mode =
     account alice (codes "alice")
@@ -253,14 +271,15 @@ opening_to_nobody mode =
     ∷ deadline_set Submission next_morning
     ∷ []
 
--- the reader's own account is shown with its digest
+-- a user's account, as this reader is shown it: their own with its digest
 abbrev pub account_to : ℕ → ℕ → List ℕ → List ℕ → Sighting
 account_to reader user name digest = if reader == user then own_account user name digest else account user name
 
--- what alice did
+-- an entry that alice made, as this reader is shown it
 abbrev pub of_alice_to : ℕ → Sighting → Sighting
 of_alice_to reader line = if reader == alice then mine line else line
 
+-- what a user is shown of the registrations, roles, mode, phase and deadline
 abbrev pub opening_to : ℕ → Digests → Mode → View
 opening_to reader d mode =
     account_to reader alice (codes "alice") d.alice
@@ -290,9 +309,8 @@ opening_to reader d mode =
 abbrev pub bare_papers : View
 bare_papers = bare_paper 1 ∷ bare_paper 2 ∷ bare_paper 3 ∷ []
 
--- an author: all of her own paper, with what the co-author did, and whom they declared; of paper 2 this
--- line, and this of its content;
--- of paper 3 that it is there
+-- the view of bob, an author of paper 1, before the bidding: all of his own paper, with what the co-author did and whom
+-- they declared; of paper 2 this line, and this of its content; of paper 3 that it is there
 abbrev pub bob_with : Digests → Mode → Sighting → View → View
 bob_with d mode second content =
     opening_to bob d mode
@@ -309,11 +327,12 @@ bob_with d mode second content =
     ∷ conflict 1 fay true
     ∷ []
 
--- before the bidding of paper 2 too
+-- the view of bob before the bidding
 abbrev pub bob_before : Digests → Mode → View
 bob_before d mode = bob_with d mode (bare_paper 2) []
 
--- a co-author: the same of that paper; and all of his own, that one is withdrawn too
+-- the view of gus, a co-author, before the bidding: all of paper 1, and all of his own papers, also that one is
+-- withdrawn
 abbrev pub gus_before : Digests → Mode → View
 gus_before d mode =
     opening_to gus d mode
@@ -331,7 +350,8 @@ gus_before d mode =
     ∷ mine (conflict 1 fay true)
     ∷ []
 
--- all others that they are there, and who is declared in conflict that she is
+-- all views before the bidding: others are shown that the papers are there, and those who are declared in conflict that
+-- they are
 abbrev pub views_before : Digests → Mode → Views
 views_before d mode = record {
   nobody = opening_to_nobody mode ++ bare_papers;
@@ -348,28 +368,30 @@ views_before d mode = record {
 
 -- ---- in the bidding
 
--- of paper 1 that it is there; and who wrote it
+-- of paper 1 that it is there
 abbrev pub bare_head : View
 bare_head = bare_paper 1 ∷ []
 
+-- of paper 1 that it is there, and who wrote it
 abbrev pub head_by_authors : View
 head_by_authors = bare_paper_by bob 1 ∷ coauthor 1 gus ∷ []
 
--- and which of the two a member in no conflict with it is shown
+-- what members in no conflict are shown of the submission of paper 1: who wrote it, unless the mode is anonymous
 abbrev pub head_to_members : Mode → View
 head_to_members Anonymous = bare_head
 head_to_members mode = head_by_authors
 
--- its last title; and its last version, and both texts
+-- the last title of paper 1
 abbrev pub title_alone : View
 title_alone = new_title 1 more_proofs ∷ []
 
+-- the last version and both last texts of paper 1
 abbrev pub last_texts : View
 last_texts = upload 1 2 second_version ∷ new_texts 1 more_proofs we_prove_more ∷ []
 
--- what the committee is told of the papers: of paper 1 this; of the others the last texts, the last
--- version and whether it is withdrawn, and unless the mode is anonymous who wrote them. Chairs are told
--- who did in each mode, as in the open one
+-- what the committee is shown of the papers: of paper 1 this; of the others the last texts, the last version and
+-- whether they are withdrawn, and unless the mode is anonymous who wrote them. Chairs are shown this in each mode as in
+-- the open one.
 abbrev pub papers_told : Mode → View → View → View
 papers_told mode head texts =
     head
@@ -380,8 +402,8 @@ papers_told mode head texts =
     ++ withdrawal 3
     ∷ []
 
--- an external of paper 2: of this the texts, the content, and unless the mode is anonymous who wrote it; and of the
--- invitations and the assignments her own
+-- the view of ivy, an external of paper 2, in the bidding: of paper 2 the texts, the content, and unless the mode is
+-- anonymous who wrote it; of invitations and assignments her own
 abbrev pub ivy_to_bidding : Digests → Mode → View → View → View
 ivy_to_bidding d mode head texts =
     opening_to ivy d mode
@@ -397,8 +419,8 @@ ivy_to_bidding d mode head texts =
     ∷ assignment 2 ivy Secondary 2
     ∷ []
 
--- a member in no conflict: all of that, and of the tags those for all. Here and below the view is a function of what
--- is shown of paper 1, which is more where it is accepted
+-- the view of hal, a member in no conflict, in the bidding: all papers, and of the tags the committee's. Here and below
+-- a view is a function of what is shown of paper 1, which is more if it is accepted.
 abbrev pub hal_to_bidding : Digests → Mode → View → View
 hal_to_bidding d mode head =
     opening_to hal d mode
@@ -408,7 +430,8 @@ hal_to_bidding d mode head =
     ∷ mine (tagging 1 hot false)
     ∷ []
 
--- one who reviews paper 1: of the conflicts his own, of the bids his own, and of the tags his own too
+-- the view of dave, who reviews paper 1, up to the tags: of the conflicts and the bids his own, and of the tags his own
+-- too
 abbrev pub dave_to_tags : Digests → Mode → Asides → View → View
 dave_to_tags d mode a head =
     opening_to dave d mode
@@ -423,11 +446,12 @@ dave_to_tags d mode a head =
     ∷ tagging 1 hot false
     ∷ []
 
--- and of the assignments his own
+-- the view of dave in the bidding: that, and of the assignments his own
 abbrev pub dave_in_bidding : Digests → Mode → Asides → View
 dave_in_bidding d mode a = dave_to_tags d mode a (head_to_members mode) ++ assignment 1 dave Primary 1 ∷ []
 
--- a member in conflict with paper 1: of it no tag; of the other papers what any member sees, and her own bid
+-- the view of carol, a member in conflict with paper 1, in the bidding: of it no tag; of the other papers what any
+-- member sees, and her own bid
 abbrev pub carol_to_bidding : Digests → Mode → View → View → View
 carol_to_bidding d mode head texts =
     opening_to carol d mode
@@ -437,8 +461,9 @@ carol_to_bidding d mode head texts =
     ∷ mine (bid 2 17)
     ∷ []
 
--- a chair in no conflict: what a member sees, whatever the mode; every conflict, but not who declared it; every bid,
--- and whose it is; the tags for all and those for chairs; and every assignment and invitation
+-- the view of alice, a chair in no conflict, in the bidding: what a member sees, whatever the mode; every conflict, but
+-- not who declared it; every bid, and who made it; the committee's tags and those for chairs; and every assignment and
+-- invitation
 abbrev pub alice_in_bidding : Digests → Mode → View
 alice_in_bidding d mode =
     opening_to alice d mode
@@ -467,7 +492,8 @@ alice_in_bidding d mode =
     ∷ mine (assignment 2 ivy Secondary 2)
     ∷ []
 
--- a chair in conflict with paper 1: of its conflicts her own, and no tag; of the other papers what any chair sees
+-- the view of fay, a chair in conflict with paper 1, in the bidding: of its conflicts her own, and no tag; of the other
+-- papers what any chair sees
 abbrev pub fay_to_bidding : Digests → Mode → View → View → View
 fay_to_bidding d mode head texts =
     opening_to fay d mode
@@ -485,9 +511,9 @@ fay_to_bidding d mode head texts =
     ∷ assignment 2 ivy Secondary 2
     ∷ []
 
--- of paper 1 members in no conflict are shown the last texts, and who wrote it unless the mode is anonymous; those
--- in conflict the last title alone. All others, authors among them: the phase, and not what the committee
--- declares, bids, tags and assigns
+-- all views in the bidding. Of paper 1 members in no conflict are shown the last texts, and who wrote it unless the
+-- mode is anonymous; those in conflict only the last title. All others, authors among them, are shown the phase, and
+-- not what the committee declares, bids, tags and assigns.
 abbrev pub views_in_bidding : Digests → Mode → Asides → Views
 views_in_bidding d mode a = record (opened_to Bidding (views_before d mode)) {
   external = ivy_to_bidding d mode bare_head [];
@@ -500,7 +526,7 @@ views_in_bidding d mode a = record (opened_to Bidding (views_before d mode)) {
 
 -- ---- in the reviewing
 
--- one who reviews paper 1: his own assignments, and his own forms whole
+-- the view of dave, who reviews paper 1, in the reviewing: his own assignments, and his own forms whole
 abbrev pub dave_in_reviewing : Digests → Mode → Asides → View
 dave_in_reviewing d mode a =
     dave_in_bidding d mode a
@@ -511,13 +537,13 @@ dave_in_reviewing d mode a =
     ∷ mine (form 1 3 2 second_form)
     ∷ []
 
--- an external of paper 2, who reviews it: her own form whole
+-- the view of ivy, an external of paper 2 who reviews it, in the reviewing: her own form whole
 abbrev pub ivy_to_reviewing : Digests → Mode → View → View → View
 ivy_to_reviewing d mode head texts =
     ivy_to_bidding d mode head texts ++ phase_set Reviewing ∷ mine (form 2 2 1 ivys_form) ∷ []
 
--- a chair in no conflict, who reviews paper 1 too: every assignment, her own form whole, and
--- under which labels there is one
+-- the view of alice, a chair in no conflict who reviews paper 1 too, up to the forms: every assignment, her own form
+-- whole, and under which labels there is one
 abbrev pub alice_to_forms : Digests → Mode → View
 alice_to_forms d mode =
     alice_in_bidding d mode
@@ -528,14 +554,15 @@ alice_to_forms d mode =
     ∷ mine (as_done (form 1 2 1 alices_form))
     ∷ []
 
+-- the view of alice in the reviewing
 abbrev pub alice_in_reviewing : Digests → Mode → View
 alice_in_reviewing d mode = alice_to_forms d mode ++ form_done 2 2 ∷ []
 
--- and so a chair in conflict with paper 1 of the others
+-- the view of fay, a chair in conflict with paper 1, in the reviewing: of the other papers what any chair sees
 abbrev pub fay_in_reviewing : Digests → Mode → View
 fay_in_reviewing d mode = fay_to_bidding d mode bare_head title_alone ++ phase_set Reviewing ∷ form_done 2 2 ∷ []
 
--- all others: the phase
+-- all views in the reviewing: all others are shown the phase
 abbrev pub views_in_reviewing : Digests → Mode → Asides → Views
 views_in_reviewing d mode a = record (opened_to Reviewing (views_in_bidding d mode a)) {
   external = ivy_to_reviewing d mode bare_head [];

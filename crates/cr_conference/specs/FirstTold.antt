@@ -1,6 +1,6 @@
--- Which rule is told, where more than one is broken: for each two that stand next to one another in what a command, a
--- query or a bulk asks, and that can be broken at once there, a case of the small conference or of its twins in which
--- both are. Beside each case stands the rule that isn't told. Seven pairs need more than the conference has:
+-- Which rule is told if more than one is broken: for each two rules that are next to each other in the list of a
+-- command, a query or a bulk, and that can be broken at once, a case of the small conference or of its twins in which
+-- both are. The comment on each case has the rules in their order. Seven pairs need more than the conference has:
 -- `name_taken` and `full_accounts`, `full_papers` and each of its two neighbours, `already_assigned` and
 -- `labels_spent`, `withdrawn` and `quota_comments`, `plan_too_large` and each of its two.
 use Rattle.std.specs.Prelude.{ℕ, ◌≡◌, ◌+◌, true, false, List, [], ◌∷◌, ◌++◌, Option, Some, None, codes, Err}
@@ -37,64 +37,73 @@ use Rattle.cr_conference.specs.ConferenceResponse.{you_are_right}
 
 -- ---- the conference, phase by phase
 
--- paper 1 is bob's and gus's, and carol and fay are in conflict with it; papers 2 and 3 are gus's, and paper 3 is
--- withdrawn. There is no paper 9, and nobody is called zoe. alice and fay are chairs, carol, dave and hal members;
--- bob, erin and gus have accounts alone
+-- the conference in the submission. Paper 1 is bob's and gus's, and carol and fay are in conflict with it; papers 2 and
+-- 3 are gus's, and paper 3 is withdrawn. There is no paper 9, and no user is called zoe. alice and fay are chairs,
+-- carol, dave and hal members; bob, erin and gus are neither.
 abbrev pub submission : Digests → Asides → History
 submission d a = before_bidding d Blind
 
+-- the conference in the bidding
 abbrev pub bidding : Digests → Asides → History
 bidding d a = in_bidding d Blind a dave
 
+-- the conference in the reviewing
 abbrev pub reviewing : Digests → Asides → History
 reviewing d a = in_reviewing d Blind a dave
 
+-- the conference in the discussion
 abbrev pub discussion : Digests → Asides → History
 discussion d a = in_discussion d Blind a dave verdicts
 
+-- the conference at the notification
 abbrev pub notification : Digests → Asides → History
 notification d a = at_notification d Blind a dave verdicts
 
--- in a twin gus is made a chair in the bidding, who is in conflict with paper 3 as its author; in another dave, who
--- reviews paper 1, declares himself in conflict with it
+-- a twin in which gus, who is in conflict with paper 3 as its author, is appointed a chair in the bidding
 abbrev pub gus_a_chair : Digests → Asides → History
 gus_a_chair d a = bidding d a ++ alice adds Named gus Chair ∷ []
 
+-- a twin in which dave, who reviews paper 1, declares himself in conflict with it
 abbrev pub dave_in_conflict : Digests → Asides → History
 dave_in_conflict d a = bidding d a ++ dave adds Conflict 1 dave true ∷ []
 
--- in another erin, who is invited to paper 1, is declared in conflict with it
+-- a twin in which erin, who is invited to paper 1, is declared in conflict with it
 abbrev pub erin_in_conflict : Digests → Asides → History
 erin_in_conflict d a = bidding d a ++ alice adds Invited 1 erin ∷ alice adds Conflict 1 erin true ∷ []
 
--- in another carol, who is in conflict with paper 1 without being its author, is dismissed
+-- a twin in which carol, who is in conflict with paper 1 without being its author, is dismissed
 abbrev pub carol_dismissed : Digests → Asides → History
 carol_dismissed d a = bidding d a ++ alice adds Dismissed carol ∷ []
 
--- in another authors respond to the reviews
+-- a twin in which the response is opened
 abbrev pub responding : Digests → Asides → History
 responding d a = reviewing d a ++ alice adds PhaseSet Response ∷ []
 
--- and in others the current phase has a deadline, which is past by noon
+-- a timestamp after the deadlines of the twins below
 abbrev pub noon : ℕ
 noon = morning + 10800
 
+-- the history with a deadline of this phase, which is past by noon
 abbrev pub due_by_morning : Phase → History → History
 due_by_morning phase H = H ++ alice adds DeadlineSet phase (Some morning) ∷ []
 
+-- a twin in which the submission has a deadline, which is past by noon
 abbrev pub submission_due : Digests → Asides → History
 submission_due d a = due_by_morning Submission (submission d a)
 
+-- a twin in which the bidding has a deadline, which is past by noon
 abbrev pub bidding_due : Digests → Asides → History
 bidding_due d a = due_by_morning Bidding (bidding d a)
 
+-- a twin in which the response has a deadline, which is past by noon
 abbrev pub response_due : Digests → Asides → History
 response_due d a = due_by_morning Response (responding d a)
 
+-- a twin in which the discussion has a deadline, which is past by noon
 abbrev pub discussion_due : Digests → Asides → History
 discussion_due d a = due_by_morning Discussion (discussion d a)
 
--- all of these are legal
+-- all of these histories are legal
 pub record AreStagesLegal (d : Digests) (a : Asides) : Type 0 where
   pub submission : Legal (submission d a)
   pub bidding : Legal (bidding d a)
@@ -113,27 +122,33 @@ pub record AreStagesLegal (d : Digests) (a : Asides) : Type 0 where
 
 -- ---- who asks, where, for what, and what she is told
 
+-- the user's command, in the morning, is refused by this rule on this history
 abbrev pub Refused : ℕ → History → Command → Rule → Type 0
 Refused u H command rule = judge (view (Some u) H) (call_of (Some u) morning None command) ≡ Err rule
 
--- the same, at noon
+-- the user's command, at noon, is refused by this rule on this history
 abbrev pub RefusedAtNoon : ℕ → History → Command → Rule → Type 0
 RefusedAtNoon u H command rule = judge (view (Some u) H) (call_of (Some u) noon None command) ≡ Err rule
 
+-- the user's query is refused by this rule on this history
 abbrev pub Unanswered : ℕ → History → Query → Rule → Type 0
 Unanswered u H query rule = answer (Some u) (view (Some u) H) query ≡ replies.Refused rule
 
+-- the user's bulk, in the morning, is refused so on this history
 abbrev pub BulkRefused : ℕ → History → List BulkRow → Broken → Type 0
 BulkRefused u H rows refusal = judge_bulk (view (Some u) H) (bulk_by u morning None rows) ≡ Err refusal
 
+-- the name that no user has registered
 abbrev pub zoe : Option (List ℕ)
 zoe = Some (codes "zoe")
 
+-- a name in a command
 abbrev pub named : List ℕ → Option (List ℕ)
 named name = Some name
 
 -- ---- the conference itself
 
+-- which rule is told first by commands on roles, the mode, the phase and deadlines
 pub record OfTheConference (d : Digests) (a : Asides) : Type 0 where
   -- naming: no_user, not_chair, wrong_phase, already_named
   pub name_nobody : Refused erin (submission d a) (commands.Name zoe Member) rules.NoUser
@@ -153,6 +168,7 @@ pub record OfTheConference (d : Digests) (a : Asides) : Type 0 where
 
 -- ---- papers
 
+-- which rule is told first by commands on papers
 pub record OfPapers (d : Digests) (a : Asides) : Type 0 where
   -- submitting: no_user, wrong_phase, late
   pub submit_with_nobody : Refused erin (bidding d a) (commands.Submit types we_type (zoe ∷ [])) rules.NoUser
@@ -179,6 +195,7 @@ pub record OfPapers (d : Digests) (a : Asides) : Type 0 where
 
 -- ---- conflicts
 
+-- which rule is told first by commands on conflicts
 pub record OfConflicts (d : Digests) (a : Asides) : Type 0 where
   -- on, before the bidding: no_paper, no_user, not_author, late, withdrawn, not_a_member
   pub declare_none : Refused erin (submission d a) (commands.SetConflict (Some 9) zoe true) rules.NoPaper
@@ -221,6 +238,7 @@ pub record OfConflicts (d : Digests) (a : Asides) : Type 0 where
 
 -- ---- bids, and who reviews
 
+-- which rule is told first by bids, assignments and their ends
 pub record OfReviewers (d : Digests) (a : Asides) : Type 0 where
   -- bidding: no_paper, not_member, conflict, wrong_phase, late, withdrawn
   pub bid_none : Refused erin (bidding d a) (commands.Bid (Some 9) 20) rules.NoPaper
@@ -260,6 +278,7 @@ pub record OfReviewers (d : Digests) (a : Asides) : Type 0 where
 
 -- ---- who is invited
 
+-- which rule is told first by invitations and their ends
 pub record OfExternals (d : Digests) (a : Asides) : Type 0 where
   -- inviting: no_paper, no_user, not_chair, conflict, wrong_phase, withdrawn, is_member, target_conflict,
   -- already_invited
@@ -291,6 +310,7 @@ pub record OfExternals (d : Digests) (a : Asides) : Type 0 where
 
 -- ---- reviews, comments, tags and decisions
 
+-- which rule is told first by forms, comments, tags and decisions
 pub record OfTheDiscussion (d : Digests) (a : Asides) : Type 0 where
   -- reviewing: no_paper, not_member, conflict, not_reviewer, wrong_phase, late; no withdrawn paper has a reviewer
   pub review_none : Refused erin (reviewing d a) (commands.Review (Some 9) first_form) rules.NoPaper
@@ -320,6 +340,7 @@ pub record OfTheDiscussion (d : Digests) (a : Asides) : Type 0 where
 
 -- ---- what authors respond
 
+-- which rule is told first by responses
 pub record OfTheResponse (d : Digests) (a : Asides) : Type 0 where
   -- responding: no_paper, not_author, wrong_phase, late, withdrawn; nobody has responded of a withdrawn paper
   pub respond_none : Refused erin (responding d a) (commands.Respond (Some 9) you_are_right) rules.NoPaper
@@ -330,6 +351,7 @@ pub record OfTheResponse (d : Digests) (a : Asides) : Type 0 where
 
 -- ---- queries
 
+-- which rule is told first by queries
 pub record OfQueries (d : Digests) (a : Asides) : Type 0 where
   -- a page: no_paper, not_member
   pub page_none : Unanswered erin (bidding d a) (queries.Page (Some 9)) rules.NoPaper
@@ -367,7 +389,7 @@ pub record OfQueries (d : Digests) (a : Asides) : Type 0 where
 
 -- ---- bulks
 
--- the second names no paper, and the third has a bad action
+-- three rows, of which the second names no paper, and the third has a bad action
 abbrev pub three_rows : List BulkRow
 three_rows =
     a_row (codes "1") (codes "primary") (codes "hal") []
@@ -375,6 +397,7 @@ three_rows =
     ∷ a_row (codes "1") (codes "fly") [] []
     ∷ []
 
+-- which rule is told first by bulks
 pub record OfBulks (d : Digests) (a : Asides) : Type 0 where
   -- the whole: not_chair, wrong_phase, and then the rows
   pub bulk_by_member : BulkRefused dave (submission d a) [] (broken.Rule rules.NotChair)
@@ -394,6 +417,7 @@ pub record OfBulks (d : Digests) (a : Asides) : Type 0 where
 
 -- ---- all of them
 
+-- all of these, with these digests, if the committee says this
 pub record IsFirstTold (d : Digests) (a : Asides) : Type 0 where
   pub legal : AreDigests d → AreAsides a → AreStagesLegal d a
   pub conference : OfTheConference d a

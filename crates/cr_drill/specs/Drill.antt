@@ -39,22 +39,24 @@ is_accepted H call = is_ok (judge (view call.caller H) call)
 
 -- ---- phases
 
--- those to which a drill's conference moves on, in their order: it skips the response
+-- the phases to which a drill's conference moves on, in order: it skips the response
 abbrev pub later_phases : List Phase
 later_phases = Submission ∷ Bidding ∷ Reviewing ∷ Discussion ∷ Notification ∷ Closed ∷ []
 
--- the conference isn't in this phase yet, and moves on to it on its way to the one that is wanted
+-- this phase is after the current one, and is the wanted one or before it
 abbrev pub is_on_way : Phase → History → Phase → Bool
 is_on_way wanted H phase = not (is_from phase (phase_of H)) && is_from phase wanted
 
+-- the history after one move to this phase, if it is on the way to the wanted one; else the history itself
 abbrev pub moved_on : Phase → History → Phase → History
 moved_on wanted H phase =
     if is_on_way wanted H phase then step H (drill_call (Some first_chair) (SetPhase phase)) else H
 
--- the first chair moves the conference on to the phase that is wanted
+-- the history after the moves to those of these phases that are on the way to the wanted one
 abbrev pub moved_through : Phase → History → List Phase → History
 moved_through wanted H phases = fold (moved_on wanted) H phases
 
+-- the history after the first chair has moved the conference on to the wanted phase
 unfoldable pub moved_to : Phase → History → History
 moved_to wanted H = moved_through wanted H later_phases
 
@@ -66,18 +68,21 @@ registered_first digest zero = []
 registered_first digest (suc n) =
     step (registered_first digest n) (drill_call None (Register (cast_name (suc n)) (digest (suc n))))
 
--- the first chair names a user
+-- the history after the first chair has appointed a user to this role
 abbrev pub named : Role → ℕ → History → History
 named role user H = step H (drill_call (Some first_chair) (Name (Some (cast_name user)) role))
 
--- she names the first n members
+-- the history after the first chair has appointed the first n members
 abbrev pub members_named : ℕ → History → History
 members_named zero H = H
 members_named (suc n) H = named Member (first_member + n) (members_named n H)
 
+-- the history in which all users of the cast have registered
 unfoldable pub all_registered : History
 all_registered = registered_first cast_digest cast_size
 
+-- the history from which the steps begin: users are registered, the second chair and the members are appointed, and the
+-- phase is the submission
 unfoldable pub opened : History
 opened = moved_to Submission (members_named member_count (named Chair second_chair all_registered))
 
@@ -90,11 +95,12 @@ pub record Drilled : Type 0 where
   pub accepted : ℕ
   pub refused : ℕ
 
--- the four quarters of a drill are in four phases
+-- the phase of each quarter of a drill
 abbrev pub phase_in_quarter : ℕ → Phase
 phase_in_quarter n =
     if n == 0 then Submission else (if n == 1 then Bidding else (if n == 2 then Reviewing else Discussion))
 
+-- the phase of step s of this many
 unfoldable pub phase_at : ℕ → ℕ → Phase
 phase_at steps s = phase_in_quarter (4 * s / steps)
 
@@ -105,6 +111,7 @@ call_at phase s H seed =
     let operation = operation_in phase roll.operation in
     drill_call (Some (actor_of operation roll.user)) (command_of operation s roll)
 
+-- the drill after this call
 abbrev pub asked : Drilled → Call → Drilled
 asked d call = record {
   seed = after_roll d.seed;
@@ -113,21 +120,22 @@ asked d call = record {
   refused = d.refused + (if is_accepted d.history call then 0 else 1);
 }
 
--- a step in a phase, on the history that has moved on to it
+-- the drill after a step in this phase, to which the conference has moved on
 abbrev pub stepped_in : Phase → ℕ → Drilled → Drilled
 stepped_in phase s d =
     let moved = record d { history = moved_to phase d.history } in
     asked moved (call_at phase s moved.history moved.seed)
 
+-- the drill after step s of this many
 unfoldable pub stepped : ℕ → ℕ → Drilled → Drilled
 stepped steps s d = stepped_in (phase_at steps s) s d
 
--- the first n of so many steps
+-- the drill after the first n of this many steps
 abbrev pub drilled_for : ℕ → ℕ → ℕ → Drilled
 drilled_for seed steps zero = record { seed = seed; history = opened; accepted = 0; refused = 0 }
 drilled_for seed steps (suc n) = stepped steps n (drilled_for seed steps n)
 
--- all of them, behind which the conference is closed
+-- the drill after all its steps and with the conference closed
 unfoldable pub drilled : ℕ → ℕ → Drilled
 drilled seed steps = let d = drilled_for seed steps steps in record d { history = moved_to Closed d.history }
 
@@ -142,16 +150,17 @@ every_kind =
     ∷ kinds.Commented ∷ kinds.Tagged ∷ kinds.Decided ∷ kinds.DeadlineSet
     ∷ kinds.Dismissed ∷ kinds.Invited ∷ kinds.Uninvited ∷ kinds.Responded ∷ []
 
--- a word and a number behind it
+-- a word and a number after it
 abbrev pub counted : List ℕ → ℕ → List ℕ
 counted word n = word ++ decimal n
 
+-- the line on the steps: how many there were, were accepted, and were refused
 unfoldable pub steps_line : ℕ → ℕ → ℕ → List ℕ
 steps_line steps accepted refused =
     counted (codes "steps ") steps ++ counted (codes ", accepted ") accepted
     ++ counted (codes ", refused ") refused ++ codes "\n"
 
--- how many entries there are, as the last line of `serve` tells too
+-- the line on how many entries there are, as in the last line of `serve`
 unfoldable pub entries_line : ℕ → List ℕ
 entries_line entries = codes "entries " ++ decimal entries ++ codes "\n"
 
@@ -159,6 +168,7 @@ entries_line entries = codes "entries " ++ decimal entries ++ codes "\n"
 abbrev pub kinds_text : History → List EntryKind → List ℕ
 kinds_text H kinds = flat_map (λ (kind : EntryKind). counted (codes " ") (count_of_kind kind H)) kinds
 
+-- the line on how many entries are of each kind
 unfoldable pub kinds_line : History → List ℕ
 kinds_line H = codes "kinds" ++ kinds_text H every_kind ++ codes "\n"
 
@@ -166,9 +176,11 @@ kinds_line H = codes "kinds" ++ kinds_text H every_kind ++ codes "\n"
 abbrev pub views_text : History → List ℕ → List ℕ
 views_text H users = flat_map (λ (user : ℕ). counted (codes " ") (length (view (Some user) H))) users
 
+-- the line on how many sightings each user's view has
 unfoldable pub views_line : History → List ℕ
 views_line H = codes "views" ++ views_text H cast ++ codes "\n"
 
+-- the summary of a drill
 unfoldable pub summary : ℕ → Drilled → List ℕ
 summary steps d =
     steps_line steps d.accepted d.refused ++ entries_line (length d.history)

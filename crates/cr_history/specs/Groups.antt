@@ -50,7 +50,7 @@ StandsAlone (Registered user name digest) = IsFalse (user == 1)
 StandsAlone (Coauthor paper user) = ⊥
 StandsAlone _ = Unit {0}
 
--- the stamp's moment and key are within their bounds; its maker's number is, since she has registered
+-- the stamp's timestamp and number are within their bounds; its maker's number is, since the maker has registered
 pub record IsBoundedStamp (stamp : Stamp) : Type 0 where
   pub moment : IsMoment stamp.at
   pub key : IsKeyOrNone stamp.key

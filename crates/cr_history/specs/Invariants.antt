@@ -33,7 +33,7 @@ IsRegistered H user = IsTrue (list_any (λ (r : Registration). r.user == user) (
 
 -- ---- an entry in its turn: each is said of the history before it
 
--- who registers makes the entry herself; every other entry is made by a user who has registered before
+-- a registration is made by its own user; every other entry is made by a user who has registered before
 abbrev pub IsMadeByUser : History → ℕ → Entry → Type 0
 IsMadeByUser H maker (Registered user name digest) = maker ≡ user
 IsMadeByUser H maker (Named user role) = IsRegistered H maker
@@ -58,8 +58,8 @@ IsMadeByUser H maker (Invited paper user) = IsRegistered H maker
 IsMadeByUser H maker (Uninvited paper user) = IsRegistered H maker
 IsMadeByUser H maker (Responded paper text) = IsRegistered H maker
 
--- of the entries that commands add, the first user's registration has another of its command behind it; a submission,
--- its co-authors and the entries of a bulk may have one
+-- the mark `more` of an entry that commands add: after the first user's registration another entry of the command
+-- follows; after a submission, a co-author and an entry of a bulk one may
 abbrev pub IsMarked : Bool → Entry → Type 0
 IsMarked more (Registered user name digest) = more ≡ (user == 1)
 IsMarked more (Submitted paper title abstract) = Unit {0}
@@ -82,7 +82,7 @@ HasNextNumber H (Reviewed paper ordinal version form) = version ≡ length (form
 HasNextNumber H (Commented paper n ordinal text) = n ≡ length (comments_of paper H) + 1
 HasNextNumber H _ = Unit {0}
 
--- nobody has registered under the name before
+-- no user has registered under the name before
 abbrev pub HasNewName : History → Entry → Type 0
 HasNewName H (Registered user name digest) = number_of name H ≡ None
 HasNewName H _ = Unit {0}
@@ -177,8 +177,8 @@ IsOfMember H (Assigned paper user kind ordinal) = IsTrue (is_of_paper H user pap
 IsOfMember H (Invited paper user) = IsFalse (is_member (role_of (Some user) H))
 IsOfMember H _ = Unit {0}
 
--- before the bidding authors alone declare conflicts with their paper, and turn none off; from the bidding on a member
--- declares her own, and chairs in no conflict with the paper turn anybody's on and off
+-- before the bidding only authors declare conflicts with their paper, and turn none off; from the bidding on members
+-- declare their own, and chairs in no conflict with the paper turn anyone's on and off
 abbrev pub may_turn : History → ℕ → ℕ → ℕ → Bool → Bool
 may_turn H maker paper user on =
     if authors_have_declared (phase_of H)
@@ -217,10 +217,10 @@ IsByRight H maker (Uninvited paper user) = IsFalse (is_conflicted (Some maker) p
 IsByRight H maker (Responded paper text) = IsTrue (is_author (Some maker) paper H)
 IsByRight H maker _ = Unit {0}
 
--- whoever is assigned is in no conflict with the paper and doesn't review it, and it has a label left; whoever is
--- unassigned reviews it under that label, and has written no form under it; a form is under its maker's own label, and
--- a comment tells that label, where its maker has one; whoever is invited is in no conflict with the paper and isn't
--- invited to it, and whose invitation is taken back is, and doesn't review it
+-- an assigned user is in no conflict with the paper and doesn't review it, and it has a label left; an unassigned user
+-- reviews it under that label, and has written no form under it; a form is under its maker's own label, and a comment
+-- tells that label, if its maker has one; an invited user is in no conflict with the paper and isn't invited to it; a
+-- user whose invitation ends is invited, and doesn't review it
 abbrev pub IsSeated : History → ℕ → Entry → Type 0
 IsSeated H maker (Assigned paper user kind ordinal) =
     IsFalse (is_conflicted (Some user) paper H) × (ordinal_of (Some user) paper H ≡ None)
@@ -260,15 +260,15 @@ pub record IsInOrder (H : History) (e : Stamped) : Type 0 where
   pub seat : IsSeated H e.stamp.maker e.entry
   pub first : ComesFirst H e.entry
 
--- it is so of each entry, on what stands before it
+-- this holds of each entry and the history before it
 abbrev pub InTurn : (History → Stamped → Type 0) → History → History → Type 0
 InTurn P before [] = Unit {0}
 InTurn P before (e ∷ after) = P before e × InTurn P (before ++ e ∷ []) after
 
 -- ---- a history as a whole
 
--- no command's entries are cut off: behind an entry with the mark `more` stands another under the same stamp, so by
--- the same maker, of the same moment and by the same number
+-- no command's entries are cut off: after an entry with the mark `more` comes another with the same stamp, and so of
+-- the same maker, timestamp and number
 abbrev pub IsWhole : History → Type 0
 IsWhole [] = Unit {0}
 IsWhole (e ∷ []) = IsFalse e.more
@@ -283,14 +283,18 @@ abbrev pub ByAuthor : History → ℕ → Entry → Type 0
 ByAuthor H maker (Conflict paper user on) = IsTrue (is_author (Some maker) paper H)
 ByAuthor H maker e = Unit {0}
 
--- of a conflict entry: its maker is the user whom it names, or else no author of its paper
+-- the maker of a conflict is the user whom it names, or no author of its paper
 abbrev pub ByHerselfOrOther : History → ℕ → Entry → Type 0
 ByHerselfOrOther H maker (Conflict paper user on) = IsFalse (user == maker) → IsFalse (is_author (Some maker) paper H)
 ByHerselfOrOther H maker e = Unit {0}
 
+-- the maker of the entry, if it is a conflict, is an author of its paper at the end of the history; it is asked of
+-- entries before the bidding is opened
 abbrev pub Early : History → Stamped → Type 0
 Early H e = ByAuthor H e.stamp.maker e.entry
 
+-- the maker of the entry, if it is a conflict, is the user whom it names, or no author of its paper at the end of the
+-- history; it is asked of entries after the bidding is opened
 abbrev pub Late : History → Stamped → Type 0
 Late H e = ByHerselfOrOther H e.stamp.maker e.entry
 
@@ -314,7 +318,7 @@ abbrev pub IsHeld : History → ℕ → Entry → Type 0
 IsHeld H maker (Reviewed paper ordinal version form) = ordinal_of (Some maker) paper H ≡ Some ordinal
 IsHeld H maker e = Unit {0}
 
--- whoever has written a form stays a reviewer of the paper, under the label under which she wrote it
+-- a user who has written a form stays a reviewer of the paper, under the label of that form
 abbrev pub ReviewersStay : History → Type 0
 ReviewersStay H = All (λ (e : Stamped). IsHeld H e.stamp.maker e.entry) H
 
@@ -324,10 +328,10 @@ ReviewersStay H = All (λ (e : Stamped). IsHeld H e.stamp.maker e.entry) H
 abbrev pub IsSpelled : Stamped → Type 0
 IsSpelled e = restored (kind_of e.entry) (row_of e) ≡ Some e
 
--- what every legal history keeps, and what of a bulk's entries stands behind one. Each entry is within its bounds, so
--- that its row spells it; it fits the tables of what stands before it; and it is in order there. Conflicts are
--- declared in time, the discussion is opened once, the response is opened in time, and whoever has written a form stays
--- a reviewer. That no command's entries are cut off, too, is said apart (`IsWhole`)
+-- what every legal history keeps, and what the entries of a bulk keep after each of them. Each entry is within its
+-- bounds, so that its row spells it; fits the tables of the history before it; and is in order there. Conflicts are
+-- declared in time, the discussion is opened once, the response is opened in time, and a user who has written a form
+-- stays a reviewer. That no command's entries are cut off is said apart (`IsWhole`).
 pub record Invariants (H : History) : Type 0 where
   pub bounded : All IsBoundedEntry H
   pub spelled : All IsSpelled H

@@ -68,8 +68,8 @@ TablesTell =
     (H : History) → FitInTurn no_tables H
     → InTurn (λ (before : History) (e : Stamped). ComesFirst before e.entry) [] H → AreTold H
 
--- which forms the committee discusses, which authors respond to, and which are a user's own, is what the tables have,
--- where phases only go on and whoever has written a form stays a reviewer
+-- the forms that the committee discusses, those to which authors respond, and a user's own are what the tables have, if
+-- phases only move forward and a user who has written a form stays a reviewer
 pub record AreFormsTold (H : History) : Type 0 where
   pub discussed : (p o : ℕ) → forms_discussed_of p o H ≡ forms_discussed_in (tables_of H).reviews p o
   pub early : (p o : ℕ)

@@ -48,7 +48,7 @@ pub record InboxText : Type 0 where
   pub request : Option RequestText
   pub rest : List ℕ
 
--- the same by where they lie
+-- the inbox's text, by where its parts lie
 abbrev pub inbox_text : List ℕ → List HeaderSpan → Option (List ℕ) → Option Extent → InboxText
 inbox_text text headers block request =
     record { request = option_map (extent_text text headers block) request; rest = drop (used request) text }

@@ -1,4 +1,4 @@
--- What stands at the front of a text that is the whole rest of a stream: a request, a refusal or an end. A head is
+-- What is at the front of a text that is the whole rest of a stream: a request, a refusal or an end. A head is
 -- what `httparse` reads as one; which refusal comes first, and the limits, are the server's own (docs/API.md).
 use Rattle.std.specs.Prelude.{◌≡◌, ◌⊎◌, ℕ, [], ◌==◌, nat_lt, nat_le, List, length, take, drop, slice_range}
 use Rattle.std.specs.Prelude.{count_by, Bool, false, Option, Some, None, if◌then◌else◌, MatchBool, ◌++◌, ⊤}
@@ -43,6 +43,7 @@ StandsAfter bytes rest found =
     ((h : RequestHead) × ReadsRequest bytes h [] × (found ≡ with_body (head_of h) (framing_of (head_of h)) rest))
     ⊎ (IsNoHead bytes × (found ≡ refused BadHttp false))
 
+-- this is at the front of the text, by the range of its head
 abbrev pub StandsFrom : List ℕ → Option (ℕ × ℕ) → Found → Type 0
 StandsFrom text None found = found ≡ without_head text
 StandsFrom text (Some range) found =

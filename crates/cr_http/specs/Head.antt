@@ -25,11 +25,12 @@ pub record HeadText : Type 0 where
 abbrev pub version_of : ℕ → Version
 version_of minor = if minor == 0 then versions.Http10 else versions.Http11
 
+-- the head that `httparse` has read, by its parts
 abbrev pub head_of : RequestHead → HeadText
 head_of h =
     record { method = h.method; target = h.target; version = version_of h.minor; fields = map name_and_value h.fields }
 
--- two names are equal but for the case of their letters
+-- the two names are equal, whatever the case of their letters
 abbrev pub same_name : List ℕ → List ℕ → Bool
 same_name a b = bytes_eq (map to_ascii_lowercase a) (map to_ascii_lowercase b)
 
@@ -69,8 +70,10 @@ framing_by version fields =
     else Refuse LengthRequired)
     else Refuse NoHost
 
+-- what the head says of the body's length
 abbrev pub framing_of : HeadText → Framing
 framing_of h = framing_by h.version h.fields
 
+-- the method is HEAD
 abbrev pub is_head_method : HeadText → Bool
 is_head_method h = bytes_eq h.method (codes "HEAD")

@@ -42,7 +42,7 @@ SaysOf reads.ReadFault text inbox = (StandsAt text clean ⊎ StandsAt text cut) 
 SaysOf (reads.OutOfMemory is_head) text inbox =
     (StandsAt text clean ⊎ StandsAt text cut) × IsToHead text is_head × KeepsAll text inbox
 
--- the answer is one for a stream that has ended
+-- an answer that says that the stream has ended is given only at its end
 abbrev pub AtEndIfEnded : RequestRead → Option (List ℕ) → Type 0
 AtEndIfEnded reads.Whole left = ⊤
 AtEndIfEnded (reads.Refused why is_head) left = ⊤
@@ -61,7 +61,7 @@ pub record Reads {S : Type 0} (left : S → Option (List ℕ)) (gives : S → S 
   pub ended : AtEndIfEnded answer (left source')
   pub needed : ReadsWhile left gives IsUnsettled source source' inbox.rest (inbox.rest ++ got)
 
--- the same by where a request lies in what is kept of the text
+-- the answer by where a request lies in what is kept of the text
 abbrev pub Lies : RequestRead → List ℕ → List ℕ → List HeaderSpan → Option (List ℕ) → Option Extent → Type 0
 Lies reads.Whole text kept headers block None = ⊥
 Lies reads.Whole text kept headers block (Some e) =

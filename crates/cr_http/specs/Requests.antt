@@ -1,4 +1,4 @@
--- The requests that a text spells, one behind another (RFC 9112, section 9.3.2), and how it ends.
+-- The requests that a text spells, one after another (RFC 9112, section 9.3.2), and how it ends.
 use Rattle.std.specs.Prelude.{◌≡◌, ℕ, ◌+◌, List, [], ◌∷◌, Bool, false, MatchBool, ⊤}
 use Rattle.cr_http.specs.declared.refusal.Refusal.{Refusal}
 use Rattle.cr_http.specs.Head.{HeadText}

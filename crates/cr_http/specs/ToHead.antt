@@ -12,6 +12,8 @@ IsToHeadBy bytes is_head =
     ((h : RequestHead) × ReadsRequest bytes h [] × (is_head ≡ is_head_method (head_of h)))
     ⊎ (IsNoHead bytes × (is_head ≡ false))
 
+-- this says whether the head in this range of the text has the method HEAD; false if there is no head, or it has too
+-- many lines
 abbrev pub IsToHeadFrom : List ℕ → Option (ℕ × ℕ) → Bool → Type 0
 IsToHeadFrom text None is_head = is_head ≡ false
 IsToHeadFrom text (Some range) is_head =

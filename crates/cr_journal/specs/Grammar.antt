@@ -69,9 +69,11 @@ pub record FitsRow (r : Row) : Type 0 where
   pub b1 : length r.b1 < 2 ^ 64
   pub b2 : length r.b2 < 2 ^ 64
 
+-- each row of the group can be written
 abbrev pub FitsGroup : List Row → Type 0
 FitsGroup group = AllByRecursion FitsRow group
 
+-- each row of each group can be written
 abbrev pub FitGroups : List (List Row) → Type 0
 FitGroups groups = AllByRecursion FitsGroup groups
 

@@ -25,7 +25,7 @@ pub record Opens (file : List ℕ) (rows : List Row) : Type 0 where
   pub journal : IsJournalOf groups file
   pub rows_are : rows_of groups ≡ rows
 
--- or to them followed whole by one of these groups
+-- the file opens to these rows, or to these and one whole group of `tried`
 abbrev pub OpensTo : List Row → List (List Row) → List ℕ → Type 0
 OpensTo rows tried file = stopping.OpensTo Opens rows tried file
 

@@ -11,5 +11,6 @@ accepted_members paper =
     ++ member_of (codes "paper") (Some (decimal paper.paper))
     ++ member_of (codes "title") (Some (quoted paper.title))
 
+-- the JSON object of an accepted paper
 abbrev pub accepted_text : AcceptedPaper → List ℕ
 accepted_text paper = object_text (accepted_members paper)

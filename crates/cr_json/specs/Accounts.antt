@@ -12,5 +12,6 @@ account_members account =
     ++ member_of (codes "role") (Some (quoted (role_name account.role)))
     ++ member_of (codes "user") (Some (decimal account.user))
 
+-- the JSON object of an account
 abbrev pub account_text : AccountLine → List ℕ
 account_text account = object_text (account_members account)

@@ -13,5 +13,6 @@ comment_members comment =
     ++ member_of (codes "text") (Some (quoted comment.text))
     ++ member_of (codes "user") (option_map quoted comment.user)
 
+-- the JSON object of a comment
 abbrev pub comment_text : CommentLine → List ℕ
 comment_text comment = object_text (comment_members comment)

@@ -13,5 +13,6 @@ deadline_members phase until =
     member_of (codes "phase") (Some (quoted (phase_name phase)))
     ++ member_of (codes "until") (Some (until_text until))
 
+-- the JSON object of a phase's deadline
 abbrev pub phase_deadline_text : PhaseDeadline → List ℕ
 phase_deadline_text deadline = object_text (deadline_members deadline.phase (Some deadline.until))

@@ -10,5 +10,6 @@ found_paper_members paper =
     member_of (codes "paper") (Some (decimal paper.paper))
     ++ member_of (codes "title") (Some (quoted paper.title))
 
+-- the JSON object of a paper that a search finds
 abbrev pub found_paper_text : FoundPaper → List ℕ
 found_paper_text paper = object_text (found_paper_members paper)

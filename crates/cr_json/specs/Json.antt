@@ -10,6 +10,7 @@ use Rattle.cr_json.specs.Put.{Bytes}
 
 -- ---- values
 
+-- a JSON boolean
 unfoldable pub truth_text : Bool → List ℕ
 truth_text true = codes "true"
 truth_text false = codes "false"
@@ -18,6 +19,7 @@ truth_text false = codes "false"
 unfoldable pub minus : Bool → List ℕ
 minus is_negative = if is_negative then codes "-" else []
 
+-- a bid, kept plus 20, as a JSON number
 unfoldable pub bid_text : ℕ → List ℕ
 bid_text raised = minus (nat_lt raised no_bid) ++ decimal (bid_size raised)
 
@@ -38,6 +40,7 @@ unfoldable pub decided_word : Option Decision → List ℕ
 decided_word None = codes "none"
 decided_word (Some decision) = decision_name decision
 
+-- what was decided, or that nothing was, as a JSON string
 abbrev pub decided_text : Option Decision → List ℕ
 decided_text decision = quoted (decided_word decision)
 
@@ -52,6 +55,7 @@ abbrev pub separated : Bool → List (List ℕ) → List ℕ
 separated is_first [] = []
 separated is_first (text ∷ rest) = comma is_first ++ text ++ separated false rest
 
+-- a JSON array of these values
 unfoldable pub array_text : List (List ℕ) → List ℕ
 array_text texts = codes "[" ++ separated true texts ++ codes "]"
 
@@ -70,12 +74,15 @@ pub record Member : Type 0 where
   pub key : List ℕ
   pub value : List ℕ
 
+-- a member's key, and the colon after it
 unfoldable pub key_text : List ℕ → List ℕ
 key_text key = codes "\"" ++ key ++ codes "\":"
 
+-- a member of a JSON object
 unfoldable pub member_text : Member → List ℕ
 member_text member = key_text member.key ++ member.value
 
+-- a JSON object of these members
 unfoldable pub object_text : List Member → List ℕ
 object_text members = codes "{" ++ separated true (map member_text members) ++ codes "}"
 

@@ -13,9 +13,11 @@ bidder_members bidder =
     member_of (codes "bid") (Some (bid_text bidder.bid))
     ++ member_of (codes "user") (Some (quoted bidder.user))
 
+-- the JSON object of a bid
 abbrev pub bidder_text : Bidder → List ℕ
 bidder_text bidder = object_text (bidder_members bidder)
 
+-- the JSON array of bids
 abbrev pub bids_text : List Bidder → List ℕ
 bids_text bids = array_text (map bidder_text bids)
 
@@ -27,8 +29,10 @@ reviewer_members reviewer =
     ++ member_of (codes "label") (Some (label_text reviewer.label))
     ++ member_of (codes "user") (option_map quoted reviewer.user)
 
+-- the JSON object of a reviewer
 abbrev pub reviewer_text : Reviewer → List ℕ
 reviewer_text reviewer = object_text (reviewer_members reviewer)
 
+-- the JSON array of reviewers
 abbrev pub reviewers_text : List Reviewer → List ℕ
 reviewers_text reviewers = array_text (map reviewer_text reviewers)

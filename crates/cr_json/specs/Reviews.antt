@@ -16,5 +16,6 @@ review_members review =
     ++ member_of (codes "user") (option_map quoted review.user)
     ++ member_of (codes "version") (option_map decimal review.version)
 
+-- the JSON object of a review
 abbrev pub review_text : ReviewLine → List ℕ
 review_text review = object_text (review_members review)

@@ -8,9 +8,9 @@ use Rattle.json.specs.Print.{quoted}
 
 -- ---- which day it is
 
--- Spans follow one another, each of so many days: in which one does the day fall that has so many days of them before
--- it, counted from the first day of span n on? The span's number, and how many of its own days are before that day. No
--- more than this many spans are looked at behind span n; the last of them has whatever follows.
+-- Spans follow one another, span m of `days_of m` days. In which one does the day fall that has this many days before
+-- it, counted from the first day of span n on: the span's number, and how many of its own days are before that day. At
+-- most this many spans after span n are looked at; the last of them has all days that follow.
 unfoldable pub falls_in : (ℕ → ℕ) → ℕ → ℕ → ℕ → ℕ × ℕ
 falls_in days_of zero n days = (n, days)
 falls_in days_of (suc more) n days =
@@ -68,9 +68,11 @@ civil_parts t = record {
 abbrev pub last_digit : ℕ → ℕ
 last_digit n = 48 + n % 10
 
+-- the number in two digits
 abbrev pub two_digits : ℕ → List ℕ
 two_digits n = last_digit (n / 10) ∷ last_digit n ∷ []
 
+-- the number in four digits
 abbrev pub four_digits : ℕ → List ℕ
 four_digits n = two_digits (n / 100) ++ two_digits n
 
@@ -80,6 +82,7 @@ civil_text t =
     four_digits t.year ++ codes "-" ++ two_digits t.month ++ codes "-" ++ two_digits t.day ++ codes "T"
     ++ two_digits t.hour ++ codes ":" ++ two_digits t.minute ++ codes ":" ++ two_digits t.second ++ codes "Z"
 
+-- a timestamp's text
 unfoldable pub time_text : ℕ → List ℕ
 time_text at = civil_text (civil_of at)
 

@@ -1,4 +1,4 @@
--- Whose a command is.
+-- Which callers may give which commands here, and what a command may name.
 use Rattle.std.specs.Prelude.{◌≤◌, length, IsSome}
 use Rattle.cr_base.specs.declared.resolved.ResolvedCall.{ResolvedCall}
 use Rattle.cr_base.specs.declared.command.Command.{Command}
@@ -7,16 +7,16 @@ use Rattle.cr_base.specs.declared.command.Command.TheVariants.{Invite, Uninvite}
 use Rattle.cr_base.specs.Logins.{IfWanted}
 use Rattle.cr_base.specs.Resolving.{resolved_wants_login}
 
--- there is a caller, where the command wants a login
+-- a call has a caller, if its command requires authentication
 abbrev pub HasCaller : ResolvedCall → Type 0
 HasCaller call = IfWanted (resolved_wants_login call.command) (IsSome call.caller)
 
--- a submission tells no more co-authors than an effect has place for
+-- a submission names at most as many co-authors as an effect has places for
 abbrev pub HasFewAuthors : Command → Type 0
 HasFewAuthors (Submit title abstract authors) = length authors ≤ 19
 HasFewAuthors _ = Unit {0}
 
--- it names one user
+-- the command names one user
 abbrev pub NamesUser : Command → Type 0
 NamesUser (Name user role) = Unit {0}
 NamesUser (SetConflict paper user on) = Unit {0}

@@ -1,4 +1,4 @@
--- The rows of a bulk by the tables: their commands, the entries that they draw, and what each is judged behind.
+-- The rows of a bulk by the tables: their commands, the entries that they draw, and what each is judged on.
 use Rattle.std.specs.Prelude.{[], ◌∷◌, Some, Result, Ok, Err}
 use Rattle.cr_base.specs.declared.command.Command.{Command}
 use Rattle.cr_base.specs.declared.entry.Entry.{Entry}
@@ -13,22 +13,24 @@ use Rattle.cr_base.specs.Tables.{Tables, FitInTurn}
 
 -- ---- what rows may draw
 
+-- each entry is of a kind that rows draw
 abbrev pub AreRowEntries : History → Type 0
 AreRowEntries [] = Unit {0}
 AreRowEntries (s ∷ group) = IsRowEntry s.entry × AreRowEntries group
 
--- these may be the entries of the rows before one: all are of such kinds, and each may come next in its turn
+-- these may be the entries of the rows before one: all are of kinds that rows draw, and each fits the tables in its
+-- turn
 pub record AreEarlier (t : Tables) (earlier : History) : Type 0 where
   pub rows : AreRowEntries earlier
   pub fits : FitInTurn t earlier
 
 -- ---- what is judged of one
 
--- what the command of a row draws, by the tables
+-- what the command of a row draws, by the tables, with its user told by name
 abbrev pub row_judged_at : Tables → Stamp → Command → Result Drawn Rule
 row_judged_at t stamp command = row_judged_by (facts_of_tables t (Some stamp.maker)) (shown_in_tables t) stamp command
 
--- the same by number
+-- what the command of a row draws, by the tables, with its user told by number
 abbrev pub row_resolved_at : Tables → Stamp → ResolvedCommand → Result Drawn Rule
 row_resolved_at t stamp command =
     row_resolved_by (facts_of_tables t (Some stamp.maker)) (shown_in_tables t) stamp command

@@ -1,4 +1,4 @@
--- Whom a submission names.
+-- The co-authors that a submission names.
 use Rattle.std.specs.Prelude.{ℕ, List, [], ◌∷◌, Option, Some, None, if◌then◌else◌}
 use Rattle.std.specs.List.{list_all}
 use Rattle.cr_base.specs.Accounts.{lines_of}
@@ -6,7 +6,7 @@ use Rattle.cr_base.specs.Drawn.{besides}
 use Rattle.cr_base.specs.Sources.{is_there}
 use Rattle.cr_base.specs.Tables.{Tables}
 
--- those of these users who are co-authors beside the maker, where all of them are there
+-- those of these users who are co-authors besides the maker, each once; `None` if one of them isn't there
 abbrev pub coauthors_of : Tables → ℕ → List ℕ → Option (List ℕ)
 coauthors_of t maker users =
     if list_all (is_there (lines_of t.accounts)) users then Some (besides (maker ∷ []) users) else None

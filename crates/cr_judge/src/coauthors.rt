@@ -24,7 +24,7 @@ pub(crate) fn coauthors(live: &Live, maker: UserNo, told: &Option<Coauthors>) ->
     }
 }
 
-/// Returns the same of users who are told.
+/// Returns those of the users told, as `coauthors` says.
 fn coauthors_among(live: &Live, maker: UserNo, users: &[UserNo]) -> Option<Coauthors>
     requires { length users.now ≤ 19 }
     ensures { result ≡ coauthors_of live.now.tables maker users.now }

@@ -25,11 +25,11 @@ use cr_view::Live;
 ///
 /// # Errors
 ///
-/// The first broken rule of its kind. The rules and their order are at the table that has each list: `register_check`,
-/// `judge_name` and `judge_dismiss` of the accounts, `judge_phase`, `judge_mode` and `judge_deadline` of the stage,
-/// `judge_submit`, `judge_revise`, `judge_upload` and `judge_withdraw` of the papers, `judge_conflict` and `judge_bid`
-/// of the ties, `judge_assign`, `judge_unassign`, `judge_invite` and `judge_uninvite` of the seats, and
-/// `judge_review`, `judge_comment`, `judge_respond`, `judge_tag` and `judge_decide`.
+/// The first broken rule of the command's list. Each table has its commands' lists: `register_check`, `judge_name` and
+/// `judge_dismiss` of the accounts, `judge_phase`, `judge_mode` and `judge_deadline` of the stage, `judge_submit`,
+/// `judge_revise`, `judge_upload` and `judge_withdraw` of the papers, `judge_conflict` and `judge_bid` of the ties,
+/// `judge_assign`, `judge_unassign`, `judge_invite` and `judge_uninvite` of the seats, and `judge_review`,
+/// `judge_comment`, `judge_respond`, `judge_tag` and `judge_decide`.
 ///
 /// # Cost
 ///
@@ -145,7 +145,7 @@ fn registration(
     })
 }
 
-/// Returns the first user becomes a chair.
+/// Returns what follows this user's registration: the first user becomes a chair.
 fn behind_registration(user: UserNo) -> Rest
     ensures { result ≡ (if user == 1 then rests.FirstChair user else rests.Nothing) }
 {

@@ -3,7 +3,8 @@
 //!
 //! # Proved
 //!
-//! - Each user that a command names is looked up once, among the accounts: `resolve_call`, `resolve_row`.
+//! - Each user that a command names is that name's number among the accounts, or `None`: `resolve_call`,
+//!   `resolve_row`.
 //! - A judgement is that by checks on the tables: the first broken rule, or what is drawn, which fits the tables in
 //!   its turn: `judge` (`drawn`, `fits`). Its receipt and group are exact; only the group takes memory:
 //!   `Effect::receipt`, `Effect::group`. The receipt is a function of the first entry: `receipt_of`.

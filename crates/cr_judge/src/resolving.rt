@@ -11,8 +11,11 @@ use cr_base::{
 };
 use cr_view::Live;
 
-/// The call with its command's users told by number, where they have registered. A submission tells at most 19
-/// co-authors. Takes no memory: texts and content are moved. One look-up for each name.
+/// Looks up the users that a call's command names. A submission names at most 19 co-authors.
+///
+/// # Cost
+///
+/// Takes no memory: texts and content are moved. At most one look-up for each name.
 pub fn resolve_call(live: &Live, call: Call) -> ResolvedCall
     requires { HasFewAuthors call.command }
     ensures { result ≡ resolve_call (lines_of live.now.tables.accounts) call }
@@ -31,7 +34,7 @@ pub fn resolve_call(live: &Live, call: Call) -> ResolvedCall
     }
 }
 
-/// The same of the command.
+/// Looks up the users that a command names.
 fn resolve(live: &Live, command: Command) -> ResolvedCommand
     requires { HasFewAuthors command }
     ensures { result ≡ resolve (lines_of live.now.tables.accounts) command }
@@ -74,7 +77,7 @@ fn resolve(live: &Live, command: Command) -> ResolvedCommand
     }
 }
 
-/// The same of a command that names one user.
+/// Looks up the user that a command names, of one that names one user.
 fn resolve_user(live: &Live, command: Command) -> ResolvedCommand
     requires { NamesUser command }
     ensures { result ≡ resolve (lines_of live.now.tables.accounts) command }
@@ -116,7 +119,11 @@ fn resolve_user(live: &Live, command: Command) -> ResolvedCommand
     }
 }
 
-/// The command of a bulk's row with its user told by number, if she has registered. One look-up where it names one.
+/// Looks up the user that the command of a bulk's row names.
+///
+/// # Cost
+///
+/// One look-up if the row names a user.
 pub fn resolve_row(live: &Live, command: RowCommand) -> ResolvedRow
     ensures { result ≡ resolve_row (lines_of live.now.tables.accounts) command }
 {
@@ -139,7 +146,11 @@ pub fn resolve_row(live: &Live, command: RowCommand) -> ResolvedRow
     }
 }
 
-/// The user of a name that may be none, if somebody registered it. One look-up by name.
+/// Returns the user who registered the name; `None` if no user did, or no name is given.
+///
+/// # Cost
+///
+/// One look-up by name.
 fn user_of(live: &Live, name: &Option<Short>) -> Option<UserNo>
     ensures { result ≡ user_among (lines_of live.now.tables.accounts) name.now }
 {
@@ -149,7 +160,11 @@ fn user_of(live: &Live, name: &Option<Short>) -> Option<UserNo>
     }
 }
 
-/// The users of these names in their order; none where one of them isn't there. One look-up by name each.
+/// Returns the users who registered these names, in their order; `None` if one of them isn't there.
+///
+/// # Cost
+///
+/// At most one look-up for each name.
 fn all_found(live: &Live, names: &[Option<Short>]) -> Option<Coauthors>
     requires { length names.now ≤ 19 }
     ensures { result ≡ all_found (users_among (lines_of live.now.tables.accounts) names.now) }

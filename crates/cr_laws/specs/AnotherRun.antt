@@ -1,4 +1,4 @@
--- AnotherRun: another run, in which a group of users ask and hear the same.
+-- AnotherRun: another run, in which a group of users ask and are answered the same.
 use Rattle.std.specs.Prelude.{ℕ, Bool, ◌≡◌, List, [], ◌∷◌, ◌++◌, length, take, Option}
 use Rattle.std.specs.List.{list_any}
 use Rattle.cr_base.specs.declared.entry.Stamped.{Stamped}
@@ -14,12 +14,13 @@ use Rattle.cr_laws.specs.GroupRuns.{is_theirs, GroupHearsAlike}
 
 -- ---- another run
 
--- the history that a run ends in
+-- the history in which a run ends
 abbrev pub end_of : Run → History
 end_of one = ends_in one.opening one.wishes
 
--- There is another run, which a legal history opens, in which the group ask the same, at the same moments and in the
--- same order, and hear the same bytes. It ends in this history, and opens with as much of that as the one opens with.
+-- There is another run, which a legal history opens, in which the group ask the same, at the same timestamps and in the
+-- same order, and are answered the same bytes. It ends in this history, and opens with as many of its entries as the
+-- first run opens with.
 pub record AnotherRun (group : List (Option ℕ)) (one : Run) (end : History) : Type 0 where
   pub other : Run
   pub legal : Legal other.opening
@@ -31,7 +32,7 @@ pub record AnotherRun (group : List (Option ℕ)) (one : Run) (end : History) : 
 
 -- ---- where the group look
 
--- one of the group looks whenever she asks, at what stands before her request: from this history on
+-- one of the group looks whenever they ask, at the history before the request: their looks from this history on
 abbrev pub looks_of : List (Option ℕ) → History → List WishInTurn → List Look
 looks_of group H [] = []
 looks_of group H (w ∷ ws) =

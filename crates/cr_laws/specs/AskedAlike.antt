@@ -1,5 +1,5 @@
--- What a user wishes in a run, and on which history each time; and that she wishes the same in two runs, where these
--- histories are alike to her in some sense.
+-- What a user wishes in a run, and on which history each time; and that the user wishes the same in two runs, on
+-- histories that are alike in some sense.
 use Rattle.std.specs.Prelude.{◌≡◌, ℕ, List, [], ◌∷◌, ◌++◌, Option, Bool}
 use Rattle.cr_base.specs.History.{History}
 use Rattle.cr_base.specs.Lists.{given}
@@ -7,20 +7,20 @@ use Rattle.cr_wire.specs.declared.what.Wish.{Wish}
 use Rattle.cr_session.specs.Told.{after_wish}
 use Rattle.cr_session.specs.TwoRuns.{WishInTurn, Run, is_hers}
 
--- a wish of a user's: what stands before it, the wish, and whether its connection closes behind it
+-- a wish of a user's: the history before it, the wish, and whether its connection closes after the answer
 pub record Asked : Type 0 where
   pub before : History
   pub wish : Wish
   pub closes : Bool
 
--- her wishes from this history on
+-- the user's wishes from this history on
 abbrev pub asks : Option ℕ → History → List WishInTurn → List Asked
 asks u H [] = []
 asks u H (w ∷ ws) =
     given (is_hers u H w.wish) (record { before = H; wish = w.wish; closes = w.closes })
     ++ asks u (after_wish H w.wish) ws
 
--- where two histories are alike to her, as this says
+-- if two histories are alike to the user when this holds
 module _ (Alike : History → History → Type 0) where
   -- she wishes the same at the same moment, and what stands before is alike
   pub record AskedAlike (one other : Asked) : Type 0 where

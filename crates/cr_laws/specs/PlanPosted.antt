@@ -1,4 +1,4 @@
--- That a plan is taken as it was told: its text, posted by whoever was told it, with nothing between.
+-- That the text of a plan is accepted as a bulk, if the user who was told it posts it before anything else happens.
 use Rattle.std.specs.Prelude.{ℕ, List, Option, None, Some, IsOk, ◌≡◌}
 use Rattle.cr_base.specs.declared.bulk.BulkRow.{BulkRow}
 use Rattle.cr_base.specs.declared.command.Query.TheVariants as queries
@@ -14,13 +14,13 @@ use Rattle.cr_policy.specs.Legal.{Legal}
 use Rattle.cr_policy.specs.View.{view}
 use Rattle.cr_bulk.specs.Rows.{parse_rows}
 
--- there are rows, and of them it holds
+-- there are rows, and this holds of them
 abbrev pub AreSpelt : Option (List BulkRow) → (List BulkRow → Type 0) → Type 0
 AreSpelt None holds = ⊥
 AreSpelt (Some rows) holds = holds rows
 
 -- PlanPosted: on a legal history, the text that a user who has registered is told as a plan spells rows that are
--- accepted as a bulk of hers, at every moment, with a number or without
+-- accepted as a bulk of this user's, at every timestamp, with a number or without
 abbrev pub PlanPosted : Type 0
 PlanPosted =
     (user at : ℕ) (key : Option RetryKey) (H : History) (per_paper load : ℕ) (text : List ℕ) → Legal H

@@ -1,4 +1,4 @@
--- ResponseBytes: up to the notification the authors of a paper are answered the same bytes, whatever stands in the
+-- ResponseBytes: before the notification the bytes that a paper's authors are answered don't depend on what is in the
 -- forms on it of which they are told nothing.
 use Rattle.std.specs.Prelude.{ℕ, Bool, Option, [], ◌∷◌, ◌++◌, IsTrue, IsFalse}
 use Rattle.std.specs.List.{list_any}
@@ -19,10 +19,10 @@ use Rattle.cr_laws.specs.AskedAlike.{AsksAlike}
 abbrev pub form_of : Stamp → Bool → ℕ → ℕ → ℕ → Form → Stamped
 form_of stamp more paper ordinal version form = stamped stamp more (Reviewed paper ordinal version form)
 
--- Two histories read the same to a user: in the first the notification isn't come, and they differ in what stands in
--- forms that others wrote of her papers, none of them the last of its label before the response; or the second is the
--- first without such a form that was written when the response had been opened; or they differ only in what she isn't
--- shown; or it is so the other way round, or of a third between them.
+-- Two histories read the same to a user. Either the first is before the notification, and they differ in what is in
+-- forms that others wrote of the user's papers, none of them the last of its label before the response; or the second is
+-- the first without such a form that was written after the response was opened; or they differ only in what the user
+-- isn't shown; or this holds with the two exchanged, or with a third history between them.
 pub data ReadsSame (u : Option ℕ) : History → History → Type 0 where
   unheard : (H H' : History) → IsFalse (is_past_discussion (phase_of H))
       → PlaceByPlace (IsSameUnlessUnheard u H) [] H H' → ReadsSame u H H'
@@ -36,6 +36,6 @@ pub data ReadsSame (u : Option ℕ) : History → History → Type 0 where
   reversed : (H H' : History) → ReadsSame u H H' → ReadsSame u H' H
   through : (H between H' : History) → ReadsSame u H between → ReadsSame u between H' → ReadsSame u H H'
 
--- for every user and any two runs, whatever they open with and whoever else asks whatever else in them
+-- ResponseBytes: of every user and any two runs, whatever they open with and whatever others ask in them
 abbrev pub ResponseBytes : Type 0
 ResponseBytes = (u : Option ℕ) (one other : Run) → AsksAlike (ReadsSame u) u one other → HearsAlike u one other

@@ -1,4 +1,4 @@
--- RunsEndSo: which histories a run could have ended in, for all that a group of users were answered in it. So what a
+-- RunsEndSo: in which histories a run could have ended, for all that a group of users were answered in it. By it what a
 -- law says of histories is said of requests and their answers.
 use Rattle.std.specs.Prelude.{ℕ, Bool, true, false, ◌≡◌, ◌||◌, List, [], ◌∷◌, Option, IsTrue}
 use Rattle.std.specs.List.{Contains}
@@ -12,9 +12,9 @@ use Rattle.cr_session.specs.TwoRuns.{Run}
 use Rattle.cr_session.specs.Retries.{AreBounded}
 use Rattle.cr_laws.specs.AnotherRun.{looks_of, end_of, is_made_by, AnotherRun}
 
--- ---- what stands in each place
+-- ---- place by place
 
--- it registers somebody
+-- the entry registers a user
 abbrev pub registers : Entry → Bool
 registers (Registered user name digest) = true
 registers e = false
@@ -23,12 +23,13 @@ registers e = false
 abbrev pub is_kept : List (Option ℕ) → Stamped → Bool
 is_kept group e = is_made_by group e || registers e.entry
 
--- the other entry may stand in the place of the one: both are the last of their command's, or neither is; and where one
--- of the two is to stay, it is the same
+-- the other entry may take the place of the one: both are the last of their command's, or neither is; and if one of the
+-- two is a registration or the group's, they are equal
 pub record StandsFor (group : List (Option ℕ)) (e other : Stamped) : Type 0 where
   pub more : e.more ≡ other.more
   pub same : IsTrue (is_kept group e || is_kept group other) → e ≡ other
 
+-- at each place the entry of the second history may take the place of the first's
 abbrev pub AllStandFor : List (Option ℕ) → History → History → Type 0
 AllStandFor group [] [] = Unit {0}
 AllStandFor group (e ∷ H) (other ∷ H') = StandsFor group e other × AllStandFor group H H'
@@ -36,8 +37,8 @@ AllStandFor group _ _ = ⊥
 
 -- ---- the law
 
--- for all that the group know the run may have ended in the history: it is legal, has what they did and who registered,
--- and looks the same to one of them whenever she asks
+-- for all that the group know the run may have ended in the history: it is legal, has what the group did and who
+-- registered, and gives each of them the same view whenever they ask
 pub record MayBeEnd (group : List (Option ℕ)) (one : Run) (end : History) : Type 0 where
   pub legal : Legal end
   pub places : AllStandFor group (end_of one) end
@@ -45,7 +46,7 @@ pub record MayBeEnd (group : List (Option ℕ)) (one : Run) (end : History) : Ty
       → seen_at (end_of one) look ≡ seen_at end look
 
 -- RunsEndSo: of each run that a legal history opens, each group and each such history there is another run, which ends
--- in it, and in which they hear the same
+-- in it, and in which the group is answered the same
 abbrev pub RunsEndSo : Type 0
 RunsEndSo = (group : List (Option ℕ)) (one : Run) (end : History) → Legal one.opening → AreBounded one.wishes
     → MayBeEnd group one end → AnotherRun group one end

@@ -1,6 +1,5 @@
--- TwinsNeeded: that whoever looks is neither of the twins can't be left out of what is asked of her. In the small
--- conference one of two members reviews a paper, and all else that is asked holds of the other, who sees that it isn't
--- he.
+-- TwinsNeeded: the condition that the user who looks is neither of the twins is needed. In the small conference one of two
+-- members reviews a paper, and all other conditions hold of the other, who sees that they aren't the reviewer.
 use Rattle.std.specs.Prelude.{ℕ, Bool, ◌≡◌, ◌&&◌, List, [], ◌∷◌, ◌++◌, Option, Some, None, length, IsTrue, IsFalse}
 use Rattle.std.specs.List.{list_any}
 use Rattle.cr_base.specs.declared.entry.Entry.TheVariants.{PhaseSet}
@@ -30,13 +29,14 @@ reviewer_and_other = record { paper = 1; one = dave; other = hal }
 abbrev pub talked_of : ℕ → Digests → History
 talked_of member d = in_bids Anonymous d ++ (reviewed_by member ++ alice adds PhaseSet Discussion ∷ [])
 
+-- the user looks at the end of the history
 abbrev pub at_end : ℕ → History → Look
 at_end user H = record { who = Some user; upto = length H }
 
 -- ---- who looks
 
--- all that is asked of who looks, where she isn't told (`IsOutside`) and where she is shown no names
--- (`IsShownNoNames`), but that she isn't the other of the two
+-- all conditions of `IsOutside` and `IsShownNoNames` on the user who looks, except that the user isn't the other of the
+-- two
 pub record IsAllButNotOther (t : Twins) (u : Option ℕ) (H : History) : Type 0 where
   pub one : IsFalse (is_number u t.one)
   pub one_wrote : IsFalse (is_author (Some t.one) t.paper H)
@@ -45,7 +45,7 @@ pub record IsAllButNotOther (t : Twins) (u : Option ℕ) (H : History) : Type 0 
   pub blind : IsTrue (is_blind_to u t.paper H)
   pub none : NoneIsHers t u H H
 
--- these see the same of both histories at their ends
+-- each of these sees the same of both histories at their ends
 abbrev pub SeeAlike : List (Option ℕ) → History → History → Type 0
 SeeAlike [] H H' = Unit {0}
 SeeAlike (u ∷ us) H H' =
@@ -57,11 +57,12 @@ abbrev pub shows_form : View → Bool
 shows_form V =
     list_any (λ (s : Sighting). is_kind kinds.Reviewed s && is_number s.paper 1 && is_number s.ordinal 1) V
 
+-- the view shows an assignment of the user's own
 abbrev pub shows_seat : ℕ → View → Bool
 shows_seat user V =
     list_any (λ (s : Sighting). is_kind kinds.Assigned s && is_number s.paper 1 && is_user (Some user) s.user) V
 
--- each of these is shown the form at the end, and no assignment of her own
+-- each of these is shown the form at the end, and no assignment of their own
 abbrev pub KnowItIsAnother : List ℕ → History → Type 0
 KnowItIsAnother [] H = Unit {0}
 KnowItIsAnother (user ∷ users) H =

@@ -1,4 +1,5 @@
--- Who may send a bulk, said a second time: a chair, while the committee works, where each row may in its turn.
+-- A second statement of who may send a bulk: a chair, while the committee works, who may do what each row asks for, after
+-- the rows before it.
 use Rattle.std.specs.Prelude.{ℕ, Bool, true, false, not, ◌&&◌, ◌==◌, ◌≡◌, List, [], ◌∷◌, ◌++◌, map, Some}
 use Rattle.std.specs.Prelude.{Result, Ok, Err, is_ok, codes}
 use Rattle.std.specs.List.{list_any}
@@ -32,8 +33,8 @@ actions =
     codes "primary" ∷ codes "secondary" ∷ codes "pcreview" ∷ codes "clearreview"
     ∷ codes "conflict" ∷ codes "clearconflict" ∷ codes "tag" ∷ codes "cleartag" ∷ []
 
--- RowsAsSaid: which command each of them asks for, of the paper and of the user or the tag that stand beside it;
--- every other word is a bad action, and what is no tag a bad one
+-- RowsAsSaid: which command each of the eight words asks for, of the paper and of the user or the tag in its row. Every
+-- other word is a bad action, and a tag that isn't valid is a bad tag.
 pub record RowsAsSaid : Type 0 where
   pub primary :
       (p u t : List ℕ)
@@ -67,35 +68,34 @@ pub record RowsAsSaid : Type 0 where
 
 -- ---- who may
 
--- it is a conflict of her own
+-- the command turns a conflict of the user `u` on or off
 abbrev pub is_of_herself : ℕ → History → Command → Bool
 is_of_herself u H (commands.SetConflict paper name on) = of_some (user_named name H) (λ v. v == u)
 is_of_herself u H _ = false
 
--- she may do what the row asks for, and it is no conflict of her own
+-- the actor may do what the row asks for, and it turns no conflict of the actor's own on or off
 abbrev pub may_row : Stamp → History → Result Command Rule → Bool
 may_row stamp H (Err rule) = false
 may_row stamp H (Ok command) =
     not (is_of_herself stamp.maker H command) && may_do (Some stamp.maker) stamp.at H command
 
--- the history with what she asks for behind it
+-- the history followed by what the row asks for; the history itself if it asks for nothing
 abbrev pub with_row : Stamp → History → Result Command Rule → History
 with_row stamp H (Err rule) = H
 with_row stamp H (Ok command) = H ++ map (λ (e : Entry). stamped stamp false e) (added (Some stamp.maker) H command)
 
--- each row may in its turn, as if those before it were done already
+-- the actor may do what each row asks for, on the history followed by what the rows before it ask for
 abbrev pub may_rows : Stamp → History → List BulkRow → Bool
 may_rows stamp H [] = true
 may_rows stamp H (row ∷ rows) =
     may_row stamp H (row_command row) && may_rows stamp (with_row stamp H (row_command row)) rows
 
--- a chair sends a bulk while the committee works, where she may do each of its rows in its turn; that it has a number
--- doesn't matter
+-- a chair may send a bulk while the committee works, if `may_rows` holds of its rows; the bulk's number doesn't matter
 abbrev pub may_bulk : History → BulkCall → Bool
 may_bulk H bulk =
     chairs bulk.stamp.maker H && committee_at_work H && may_rows (unnumbered bulk.stamp) H bulk.rows
 
--- BulksAsSaid: on a legal history a user's bulk is accepted exactly where it is so
+-- BulksAsSaid: on a legal history a user's bulk is accepted if and only if `may_bulk` holds
 abbrev pub BulksAsSaid : Type 0
 BulksAsSaid = (H : History) (bulk : BulkCall) → Legal H → IsBulkAllowed H bulk
     → is_ok (judge_bulk (view (Some bulk.stamp.maker) H) bulk) ≡ may_bulk H bulk

@@ -1,5 +1,6 @@
--- Who may do what, said a second time: for each command one sentence, as a committee says it, written from
--- docs/API.md and not from the lists of checks. Where a paper or a user that is told isn't there, nobody may.
+-- A second statement of who may do what: for each command one sentence, as a committee says it, written from
+-- docs/API.md and not from the lists of checks. If a paper or a user that a command names isn't there, no user may. `u`
+-- is the caller, `at` the timestamp of the request, `p` the paper named and `v` the user named.
 use Rattle.std.specs.Prelude.{ℕ, Bool, true, false, not, ◌&&◌, ◌||◌, ◌+◌, ◌==◌, ◌≡◌, nat_le, nat_lt, List, length}
 use Rattle.std.specs.Prelude.{Option, Some, is_none, is_some, is_ok}
 use Rattle.std.specs.List.{list_all}
@@ -27,132 +28,133 @@ use Rattle.cr_policy.specs.View.{view}
 
 -- ---- accounts and the conference
 
--- anybody registers a name that nobody has registered, while fewer than 9,999 are registered
+-- every caller may register a name that no user has registered, while fewer than 9,999 are registered
 abbrev pub may_register : History → List ℕ → Bool
 may_register H name = is_none (number_of name H) && nat_lt (length (accounts_of H)) 9999
 
--- a chair gives a user a role above the one that she has, until the discussion is over
+-- a chair may appoint a user to a role above the one that they have, until the discussion is over
 abbrev pub may_name : ℕ → History → Role → ℕ → Bool
 may_name u H role v = chairs u H && not (is_over H) && is_above role (role_of (Some v) H)
 
--- a chair dismisses a member until the discussion is over, and a chair while there are two at least
+-- a chair may dismiss a member until the discussion is over; a chair only while there are at least two
 abbrev pub may_dismiss : ℕ → History → ℕ → Bool
 may_dismiss u H v = chairs u H && not (is_over H) && on_committee v H && (not (chairs v H) || has_two_chairs H)
 
--- a chair sets the mode, in setup
+-- a chair may set the mode, in setup
 abbrev pub may_set_mode : ℕ → History → Bool
 may_set_mode u H = chairs u H && now Setup H
 
--- a chair moves the conference to the phase that comes next
+-- a chair may move the conference to a phase that may come next
 abbrev pub may_open : ℕ → History → Phase → Bool
 may_open u H to = chairs u H && comes_behind (phase_of H) to
 
--- a chair sets the deadline of a phase that lasts or is yet to come, or takes it away
+-- a chair may set the deadline of a phase that lasts or is yet to come, or take it away
 abbrev pub may_set_deadline : ℕ → History → Phase → Bool
 may_set_deadline u H phase = chairs u H && lasts_or_comes phase H
 
--- What is done in a phase until its deadline; `at` is the moment of the request.
-
 -- ---- what authors do
 
--- whoever has an account submits a paper, with co-authors who have one, in the submission until its deadline, while
--- fewer than 9,999 were submitted, and fewer than 20 by herself
+-- a user may submit a paper, with co-authors who have registered, in the submission until its deadline, while fewer
+-- than 9,999 were submitted, and fewer than 20 by the user
 abbrev pub may_submit : ℕ → ℕ → History → List (Option (List ℕ)) → Bool
 may_submit u at H names =
     now Submission H && in_time at H && list_all (λ name. is_somebody name H) names
     && nat_lt (length (papers_of H)) 9999 && nat_lt (own_papers_of (Some u) H) 20
 
--- an author changes her paper, or withdraws it, in the submission until its deadline, until it is withdrawn
+-- an author may revise the paper, or withdraw it, in the submission until its deadline, unless it is withdrawn
 abbrev pub may_change : ℕ → ℕ → History → ℕ → Bool
 may_change u at H p = stands p H && wrote u p H && now Submission H && in_time at H
 
--- and uploads a version of its content, as long as all that she has uploaded is no more than 64 MiB with it
+-- an author may upload a version of the paper's content, in the submission until its deadline, unless it is withdrawn,
+-- if all that the author has uploaded is then at most 64 MiB
 abbrev pub may_upload : ℕ → ℕ → History → ℕ → ℕ → Bool
 may_upload u at H bytes p = may_change u at H p && nat_le (own_bytes_of (Some u) H + bytes) 67108864
 
 -- ---- conflicts
 
--- a paper that isn't withdrawn and a member are declared in conflict: before the bidding by an author of the paper,
--- until the deadline of the submission; while the committee works by the member herself, and by a chair who is in no
--- conflict with the paper, at any time; she declares an external of the paper so too
+-- a paper that isn't withdrawn and a member may be declared in conflict: before the bidding by an author of the paper,
+-- until the deadline of the submission; while the committee works by the member, or by a chair in no conflict with the
+-- paper. That chair may also declare an external of the paper.
 abbrev pub may_declare : ℕ → ℕ → History → ℕ → ℕ → Bool
 may_declare u at H p v =
     stands p H
     && ((before_bidding H && in_time at H && wrote u p H && on_committee v H)
     || (committee_at_work H && ((v == u && on_committee v H) || (administers u p H && has_part v p H))))
 
--- while the committee works, a chair in no conflict with a paper that isn't withdrawn takes back that a member or an
--- external of the paper is, who is no author of it
+-- while the committee works, a chair in no conflict with a paper that isn't withdrawn may turn off a conflict of a
+-- member or an external of the paper who is no author of it
 abbrev pub may_take_back : ℕ → History → ℕ → ℕ → Bool
 may_take_back u H p v = stands p H && administers u p H && committee_at_work H && has_part v p H && not (wrote v p H)
 
 -- ---- bids, and who reviews
 
--- a member in no conflict with a paper that isn't withdrawn bids on it, in the bidding until its deadline
+-- a member in no conflict with a paper that isn't withdrawn may bid on it, in the bidding until its deadline
 abbrev pub may_bid : ℕ → ℕ → History → ℕ → Bool
 may_bid u at H p = stands p H && is_eligible u p H && now Bidding H && in_time at H
 
--- while the committee works, a chair in no conflict with a paper that isn't withdrawn assigns it to a member or an
--- external of it in none who doesn't review it, while fewer than 26 of its labels are given
+-- while the committee works, a chair in no conflict with a paper that isn't withdrawn may assign it to a member, or an
+-- external of it, who is in no conflict with it and doesn't review it, while fewer than 26 of its labels are given
 abbrev pub may_assign : ℕ → History → ℕ → ℕ → Bool
 may_assign u H p v =
     stands p H && administers u p H && committee_at_work H && may_have_it v p H && not (reviews v p H)
     && nat_lt (length (seats_of p H)) 26
 
--- there is a form under the label under which she reviews the paper
+-- there is a form under the label under which the user reviews the paper
 abbrev pub has_written : ℕ → ℕ → History → Bool
 has_written v p H = of_some (ordinal_of (Some v) p H) (λ o. is_written p o H)
 
--- and takes a reviewer off it under whose label there is no form yet
+-- while the committee works, a chair in no conflict with a paper that isn't withdrawn may unassign a reviewer under
+-- whose label there is no form
 abbrev pub may_unassign : ℕ → History → ℕ → ℕ → Bool
 may_unassign u H p v =
     stands p H && administers u p H && committee_at_work H && reviews v p H && not (has_written v p H)
 
--- while the committee works, a chair in no conflict with a paper that isn't withdrawn invites somebody to it who isn't
+-- while the committee works, a chair in no conflict with a paper that isn't withdrawn may invite a user to it who isn't
 -- on the committee, is in no conflict with it, and isn't invited to it
 abbrev pub may_invite : ℕ → History → ℕ → ℕ → Bool
 may_invite u H p v =
     stands p H && administers u p H && committee_at_work H && not (on_committee v H) && not (in_conflict v p H)
     && not (is_invited (Some v) p H)
 
--- and takes an invitation back, where who has it doesn't review the paper
+-- while the committee works, a chair in no conflict with a paper that isn't withdrawn may end the invitation of a user
+-- who is invited to it and doesn't review it
 abbrev pub may_uninvite : ℕ → History → ℕ → ℕ → Bool
 may_uninvite u H p v =
     stands p H && administers u p H && committee_at_work H && is_invited (Some v) p H && not (reviews v p H)
 
 -- ---- reviews, responses, comments, tags and decisions
 
--- a member or an external in no conflict with a paper that isn't withdrawn, who reviews it, writes a form, in the
--- reviewing and in the discussion, in each until its deadline
+-- a reviewer of a paper that isn't withdrawn, who is a member or an external of it and in no conflict with it, may
+-- write a form, in the reviewing and in the discussion, in each until its deadline
 abbrev pub may_review : ℕ → ℕ → History → ℕ → Bool
 may_review u at H p =
     stands p H && may_have_it u p H && reviews u p H && (now Reviewing H || now Discussion H) && in_time at H
 
--- an author of a paper that isn't withdrawn responds to its reviews, in the response until its deadline, where none of
+-- an author of a paper that isn't withdrawn may respond to its reviews, in the response until its deadline, if none of
 -- its authors has
 abbrev pub may_respond : ℕ → ℕ → History → ℕ → Bool
 may_respond u at H p = stands p H && wrote u p H && now Response H && in_time at H && is_none (response_of p H)
 
--- a member in no conflict with a paper that isn't withdrawn comments on it, in the discussion until its deadline,
--- while she has written fewer than 1,000 comments
+-- a member in no conflict with a paper that isn't withdrawn may comment on it, in the discussion until its deadline,
+-- while the member has written fewer than 1,000 comments
 abbrev pub may_comment : ℕ → ℕ → History → ℕ → Bool
 may_comment u at H p =
     stands p H && is_eligible u p H && now Discussion H && in_time at H && nat_lt (own_comments_of (Some u) H) 1000
 
--- while the committee works, a member in no conflict with a paper that isn't withdrawn turns its tags on and off;
--- those for chairs only where she is one
+-- while the committee works, a member in no conflict with a paper that isn't withdrawn may turn its tags on and off,
+-- those for chairs only if the member is one
 abbrev pub may_tag : ℕ → History → List ℕ → ℕ → Bool
 may_tag u H tag p =
     stands p H && is_eligible u p H && committee_at_work H && (chairs u H || not (is_for_chairs_alone tag))
 
--- a chair in no conflict with a paper that isn't withdrawn decides on it, in the discussion
+-- a chair in no conflict with a paper that isn't withdrawn may decide on it, in the discussion
 abbrev pub may_decide : ℕ → History → ℕ → Bool
 may_decide u H p = stands p H && administers u p H && now Discussion H
 
 -- ---- all of them
 
--- by command, at a moment: whoever calls registers, and all else is done by a user who calls, on a paper that is told,
--- and to a user who is named
+-- the caller may give the command at this timestamp: every caller may register; all else only a user may do, on the
+-- paper and to the user that the command names
 abbrev pub may_do : Option ℕ → ℕ → History → Command → Bool
 may_do caller at H (commands.Register name digest) = may_register H name
 may_do caller at H (commands.SetPhase to) = of_some caller (λ u. may_open u H to)
@@ -191,8 +193,8 @@ abbrev pub is_accepted_from : History → Call → Bool
 is_accepted_from H call =
     (is_some call.caller || not (command_wants_login call.command)) && is_ok (judge (view call.caller H) call)
 
--- PermissionsAsSaid: on a legal history a command is accepted, whoever calls and when, exactly where its sentence
--- holds
+-- PermissionsAsSaid: on a legal history a command of any caller at any timestamp is accepted if and only if its
+-- sentence holds
 abbrev pub PermissionsAsSaid : Type 0
 PermissionsAsSaid =
     (H : History) (call : Call) → Legal H → is_accepted_from H call ≡ may_do call.caller call.at H call.command

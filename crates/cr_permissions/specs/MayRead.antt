@@ -42,28 +42,28 @@ has_version author None uploads = not (is_nothing uploads)
 has_version true (Some version) uploads = list_any (λ (u : Upload). u.version == version) uploads
 has_version false (Some version) uploads = option_map_or (λ (u : Upload). u.version == version) (last uploads) false
 
--- a paper's authors read its reviews from the notification on, and before it once the response was opened; members in
--- no conflict with it from the discussion on, and in the reviewing and the response where they review it, of their
--- own; externals in none who review it, of their own, from the reviewing on
+-- a paper's authors may read its reviews from the notification on, and before it once the response was opened. Members
+-- in no conflict with it may from the discussion on, and in the reviewing and the response their own, if they review
+-- it. Externals in no conflict with it may read their own from the reviewing on, if they review it.
 abbrev pub may_read_reviews : ℕ → History → ℕ → Bool
 may_read_reviews u H p =
     (wrote u p H && (is_over H || had_response_of H))
     || (is_eligible u p H && (from_discussion H || (reviews u p H && before_discussion H)))
     || (is_external_of u p H && not (in_conflict u p H) && reviews u p H && from_reviewing H)
 
--- members in no conflict with a paper read the comments on it, from the discussion on
+-- members in no conflict with a paper may read the comments on it, from the discussion on
 abbrev pub may_read_comments : ℕ → History → ℕ → Bool
 may_read_comments u H p = is_eligible u p H && from_discussion H
 
--- a paper's authors read what they responded, where they did; and members in no conflict with it do, from the
--- discussion on
+-- if a paper's authors have responded, they may read the response, and members in no conflict with the paper may from
+-- the discussion on
 abbrev pub may_read_response : ℕ → History → ℕ → Bool
 may_read_response u H p = is_some (response_of p H) && (wrote u p H || (is_eligible u p H && from_discussion H))
 
 -- ---- reports
 
--- members have the report on all papers from the bidding on, and those on scores and on decisions from the
--- discussion on; chairs have the one on the load from the bidding on; and a paper's authors have the letter on it
+-- members may have the report on all papers from the bidding on, and those on scores and on decisions from the
+-- discussion on; chairs may have the one on the load from the bidding on; a paper's authors may have the letter on it
 -- from the notification on
 abbrev pub may_report : ℕ → History → Report → Bool
 may_report u H reports.Papers = on_committee u H && not (before_bidding H)
@@ -74,14 +74,16 @@ may_report u H (reports.Letter paper) = of_some paper (λ p. is_paper p H && wro
 
 -- ---- plans
 
--- chairs get a plan while the committee works, where there is one, unless it would have more than 512 places, or the
--- papers planned times the members pass 4,096
+-- there is a plan of this many reviewers for each paper and at most this many papers for each member, it has at most
+-- 512 places, and the papers planned times the members are at most 4,096
 abbrev pub may_plan_by : Facts → Shown → ℕ → ℕ → Bool
 may_plan_by facts shown per_paper load =
     let papers = length (planned_papers facts shown per_paper) in
     nat_le (per_paper * papers) 512 && nat_le (papers * length (planned_members facts)) 4096
     && is_some (best_plan facts shown per_paper load)
 
+-- a chair may have a plan while the committee works, if `may_plan_by` holds. It reads the facts of the tables, which
+-- are those of the history; every other sentence here reads the history.
 abbrev pub may_plan : ℕ → History → ℕ → ℕ → Bool
 may_plan u H per_paper load =
     chairs u H && committee_at_work H
@@ -89,15 +91,16 @@ may_plan u H per_paper load =
 
 -- ---- all of them
 
--- a content is read by everyone once the paper is published
+-- the caller may read this version of the paper's content, or the last: everyone once the paper is published, others as
+-- `may_read_content` says, and only a version that is told to them
 abbrev pub reads_content : Option ℕ → History → Option ℕ → ℕ → Bool
 reads_content caller H version p =
     is_paper p H
     && (is_public p H || of_some caller (λ u. may_read_content u H p))
     && has_version (of_some caller (λ u. wrote u p H)) version (uploads_of p H)
 
--- by query. Who registered, how the conference stands, its deadlines, and the accepted papers are told to everyone,
--- and so are the page and the content of a published paper; what is her own, and what a search finds, to every user
+-- the caller may ask the query. The accounts, the phase, the deadlines and the accepted papers are for everyone, and so
+-- are the page and the content of a published paper; what a user's own page says, and a search, are for every user.
 abbrev pub may_read : Option ℕ → History → Query → Bool
 may_read caller H queries.Accounts = true
 may_read caller H queries.Phase = true
@@ -120,17 +123,18 @@ may_read caller H (queries.Plan per_paper load) = of_some caller (λ u. may_plan
 
 -- ---- the law
 
--- a reply that isn't a rule
+-- the reply is no refusal
 abbrev pub is_told : Reply → Bool
 is_told (replies.Refused rule) = false
 is_told _ = true
 
--- a caller's query is answered: somebody calls, where a login is wanted for it, and no rule is broken
+-- the caller's query is answered: the caller is authenticated or the query requires no authentication, and no rule is
+-- broken
 abbrev pub is_answered_to : Option ℕ → History → Query → Bool
 is_answered_to caller H query =
     (is_some caller || not (needs_login (view None H) query)) && is_told (answer caller (view caller H) query)
 
--- ReadingAsSaid: on a legal history a query is answered, whoever calls, exactly where its sentence holds
+-- ReadingAsSaid: on a legal history a query of any caller is answered if and only if its sentence holds
 abbrev pub ReadingAsSaid : Type 0
 ReadingAsSaid =
     (caller : Option ℕ) (H : History) (query : Query) → Legal H

@@ -17,10 +17,11 @@ abbrev pub stamp_kept : OldVersion → Stamp → Stamp
 stamp_kept First stamp = stamp_by stamp.maker 0 None
 stamp_kept Second stamp = unnumbered stamp
 
--- and so of an entry, and of a history
+-- the entry as a store of the older version keeps it
 abbrev pub kept_as : OldVersion → Stamped → Stamped
 kept_as version e = stamped (stamp_kept version e.stamp) e.more e.entry
 
+-- the history as a store of the older version keeps it
 abbrev pub all_kept_as : OldVersion → History → History
 all_kept_as version H = map (kept_as version) H
 
@@ -29,6 +30,7 @@ abbrev pub last_kind_of : OldVersion → ℕ
 last_kind_of First = 17
 last_kind_of Second = 18
 
+-- the history has only kinds of entries that the older version has
 abbrev pub HasKindsOf : OldVersion → History → Type 0
 HasKindsOf version H = AllByRecursion (λ (e : Stamped). kind_number (kind_of e.entry) ≤ last_kind_of version) H
 

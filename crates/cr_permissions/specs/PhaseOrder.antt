@@ -12,16 +12,19 @@ use Rattle.cr_base.specs.Words.{phase_number}
 abbrev pub from_response : List Phase
 from_response = Response ∷ Discussion ∷ Notification ∷ Closed ∷ []
 
+-- the phases from the reviewing on, in order
 abbrev pub from_reviewing : List Phase
 from_reviewing = Reviewing ∷ from_response
 
+-- all phases, in order
 abbrev pub in_order : List Phase
 in_order = Setup ∷ Submission ∷ Bidding ∷ from_reviewing
 
--- those of all that are this phase or a later one, and those that may follow it
+-- the phases that are this one or a later one, as the rules say
 abbrev pub those_from : Phase → List Phase
 those_from phase = filter (is_from phase) in_order
 
+-- the phases that may follow this one, as the rules say
 abbrev pub those_next : Phase → List Phase
 those_next phase = filter (is_next phase) in_order
 

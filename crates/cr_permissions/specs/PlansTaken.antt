@@ -1,4 +1,5 @@
--- That a plan is taken: a row for each of its pairs, given as a bulk by whoever was told it, with nothing between.
+-- That a plan is accepted as a bulk with a row for each of its pairs, if the user who was told it sends it before anything
+-- else happens.
 use Rattle.std.specs.Prelude.{ℕ, List, [], map, decimal, codes, Option, Some, IsOk, ◌≡◌}
 use Rattle.cr_base.specs.declared.bulk.BulkRow.{BulkRow}
 use Rattle.cr_base.specs.declared.retry.RetryKey.{RetryKey}
@@ -16,12 +17,12 @@ use Rattle.cr_policy.specs.View.{view}
 use Rattle.cr_policy.specs.ViewFacts.{facts_in_view, shown_in_view}
 use Rattle.cr_policy.specs.Sentences.{a_row}
 
--- the row of a pair
+-- the row that assigns a pair
 abbrev pub row_of_pair : PlanPair → BulkRow
 row_of_pair pair = a_row (decimal pair.paper) (codes "pcreview") pair.member.name []
 
 -- PlansTaken: on a legal history, the best plan of a user who has registered and may ask for it is accepted as a bulk
--- of hers, at every moment, with a number or without
+-- of this user's, at every timestamp, with a number or without
 abbrev pub PlansTaken : Type 0
 PlansTaken =
     (user at : ℕ) (key : Option RetryKey) (H : History) (per_paper load : ℕ) (plan : List PlanPair) → Legal H

@@ -1,5 +1,5 @@
--- What an accepted command adds to the history and what it is answered, said a second time: a line for each command,
--- of the command and of the facts of the history before it.
+-- A second statement of what an accepted command adds to the history, and of its receipt: a line for each command, in
+-- terms of the command and of the facts of the history before it.
 use Rattle.std.specs.Prelude.{ℕ, Bool, true, false, not, ◌+◌, ◌==◌, ◌≡◌, List, [], ◌∷◌, length, map, filter, Option}
 use Rattle.std.specs.Prelude.{Some, None, Ok}
 use Rattle.std.specs.List.{AllByRecursion, flat_map}
@@ -30,55 +30,63 @@ use Rattle.cr_policy.specs.View.{view}
 
 -- ---- numbers that are given next
 
--- users are numbered as they register, papers as they are submitted, and of each paper the versions of its content
--- as they are uploaded, its labels as they are given, the forms of a label as they are written, and its comments as
--- they are made; each from 1
+-- the number of the next user: they are numbered from 1, as they register
 abbrev pub next_user : History → ℕ
 next_user H = length (accounts_of H) + 1
 
+-- the number of the next paper: they are numbered from 1, as they are submitted
 abbrev pub next_paper : History → ℕ
 next_paper H = length (papers_of H) + 1
 
+-- the number of the next version of the paper's content: they are numbered from 1, as they are uploaded
 abbrev pub next_version : ℕ → History → ℕ
 next_version p H = length (uploads_of p H) + 1
 
+-- the ordinal of the paper's next label: they are numbered from 1, as reviewers are assigned
 abbrev pub next_label : ℕ → History → ℕ
 next_label p H = length (seats_of p H) + 1
 
+-- the number of the next form under the paper's label of this ordinal: they are numbered from 1, as they are written
 abbrev pub next_form : ℕ → ℕ → History → ℕ
 next_form p o H = length (forms_of p o H) + 1
 
+-- the number of the next comment on the paper: they are numbered from 1, as they are written
 abbrev pub next_comment : ℕ → History → ℕ
 next_comment p H = length (comments_of p H) + 1
 
 -- ---- co-authors
 
--- the users without this one; and each of them once, where she comes first
+-- the users without this one
 abbrev pub without : ℕ → List ℕ → List ℕ
 without u users = filter (λ v. not (v == u)) users
 
+-- each of the users once, at their first place
 abbrev pub once : List ℕ → List ℕ
 once [] = []
 once (u ∷ users) = u ∷ without u (once users)
 
--- who are named, in this order: the submitter adds nothing, nor does who was named before
+-- the users named, each once, in order, without the submitter `u`
 abbrev pub coauthors : ℕ → List (Option (List ℕ)) → History → List ℕ
 coauthors u names H = without u (once (flat_map (λ name. listed (user_named name H)) names))
 
 -- ---- the entries
 
--- of the user named, and of the label under which she reviews the paper
+-- the entry for the user named; none if there is no such user
 abbrev pub for_user : Option (List ℕ) → History → (ℕ → Entry) → List Entry
 for_user name H entry = listed (option_map entry (user_named name H))
 
+-- the entry for the ordinal under which the user reviews the paper; none if they don't
 abbrev pub for_label : ℕ → ℕ → History → (ℕ → Entry) → List Entry
 for_label u p H entry = listed (option_map entry (ordinal_of (Some u) p H))
 
+-- the entry for the user named and the ordinal under which they review the paper; none if there is no such user or they
+-- don't
 abbrev pub for_seated : Option (List ℕ) → ℕ → History → (ℕ → ℕ → Entry) → List Entry
 for_seated name p H entry = flat_map (λ v. for_label v p H (entry v)) (listed (user_named name H))
 
--- a registration adds that, and the first of all makes its user a chair; each other command of a user's adds the one
--- entry that says what she did, and a submission one more for each co-author
+-- the entries that a command adds. A registration adds itself, and the first one that its user becomes a chair. Each
+-- other command is a user's, and adds the one entry that says what it does; a submission adds one more for each
+-- co-author.
 abbrev pub added : Option ℕ → History → Command → List Entry
 added caller H (commands.Register name digest) =
     Registered (next_user H) name digest ∷ given (is_nothing (accounts_of H)) (Named 1 Chair)
@@ -105,19 +113,20 @@ added (Some u) H (commands.Tag (Some p) tag on) = Tagged p tag on ∷ []
 added (Some u) H (commands.Decide (Some p) decision) = Decided p decision ∷ []
 added _ H _ = []
 
--- who makes them: the new user her registration, and whoever calls all else
+-- the actor of the entries that a command adds: of a registration the new user, else the caller
 abbrev pub made_by : Option ℕ → History → Command → ℕ
 made_by caller H (commands.Register name digest) = next_user H
 made_by (Some u) H _ = u
 made_by None H _ = 0
 
--- so under its call's stamp, with this maker
+-- the stamp of the entries that the call adds: its own, with the actor that `made_by` gives
 abbrev pub stamp_added : History → Call → Stamp
 stamp_added H call = record (stamp_of call) { maker = made_by call.caller H call.command }
 
 -- ---- the answer
 
--- what was numbered anew, its number; what was changed, its paper; what was set, that
+-- the receipt of a command, as a list of at most one: of what is numbered anew its number, of what is changed its
+-- paper, of what is set the value
 abbrev pub answered : Option ℕ → History → Command → List Receipt
 answered caller H (commands.Register name digest) = receipts.User (next_user H) ∷ []
 answered caller H (commands.Name (Some name) role) = receipts.Named name role ∷ []
@@ -145,20 +154,22 @@ answered _ H _ = []
 
 -- ---- the law
 
--- each but the last has the mark that another follows
+-- the marks of the entries of one command: each but the last has the mark that another follows
 abbrev pub marks : List Entry → List Bool
 marks [] = []
 marks (e ∷ []) = false ∷ []
 marks (e ∷ next ∷ es) = true ∷ marks (next ∷ es)
 
--- these entries are added, all under this stamp, and marked so; and the command is answered this
+-- what is drawn is these entries, all under this stamp, each but the last with the mark that another follows, and this
+-- receipt
 pub record IsAdded (stamp : Stamp) (es : List Entry) (told : List Receipt) (drawn : Drawn) : Type 0 where
   pub entries : map (λ (e : Stamped). e.entry) drawn.group ≡ es
   pub stamps : AllByRecursion (λ (e : Stamped). e.stamp ≡ stamp) drawn.group
   pub marks : map (λ (e : Stamped). e.more) drawn.group ≡ marks es
   pub receipt : drawn.receipt ∷ [] ≡ told
 
--- AddsAsSaid: on a legal history an accepted command adds what its line says
+-- AddsAsSaid: on a legal history an accepted command adds the entries of `added`, under the stamp of `stamp_added`, and
+-- its receipt is that of `answered`
 abbrev pub AddsAsSaid : Type 0
 AddsAsSaid =
     (H : History) (call : Call) (drawn : Drawn) → Legal H → IsCaller H call.caller call.command

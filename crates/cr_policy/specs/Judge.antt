@@ -1,5 +1,5 @@
--- Judge and Answer: a command's and a bulk's judgement, what they come to where they have a number, and a query's
--- answer, computed from the caller's view alone.
+-- Judge and Answer: the judgement of a command and of a bulk, what becomes of them if they have a number, and the answer
+-- to a query, computed from the caller's view only.
 use Rattle.std.specs.Prelude.{ℕ, Bool, true, false, ◌++◌, map, Option, Some, None, Result}
 use Rattle.cr_base.specs.declared.bulk.Broken.{Broken}
 use Rattle.cr_base.specs.declared.bulk.Broken.TheVariants as broken
@@ -33,29 +33,30 @@ judge_by_number V call =
     judge_resolved (facts_in_view call.caller V) (shown_in_view call.caller V)
     (stamp_by (maker_of call.caller) call.at call.key) call.command
 
--- Judge: that of the command with whom it names looked up among the accounts that the view shows
+-- Judge: the judgement of the command with each user that it names looked up among the accounts that the view shows
 abbrev pub judge : View → Call → Result Drawn Rule
 judge V call = judge_by_number V (resolve_call (facts_in_view call.caller V).accounts call)
 
--- what a command comes to: before Judge stands the look-up of its number among the caller's own entries
+-- what becomes of a command: its number is looked up among the caller's own entries, before Judge
 abbrev pub decide : View → Call → Outcome Rule
 decide V call = settled rules.NumberUsed false call.key (kept_in_view V) (judge V call)
 
--- Answer: the answer to the query
+-- Answer: the answer to the caller's query, from the caller's view
 abbrev pub answer : Option ℕ → View → Query → Reply
 answer u V query = answer_by (facts_in_view u V) (shown_in_view u V) u query
 
--- whether a login is wanted for the query, as nobody's view tells: everyone is served what is published
+-- the query requires authentication, by an unauthenticated caller's view: what is published is for everyone
 abbrev pub needs_login : View → Query → Bool
 needs_login V query = login_wanted (facts_in_view None V) query
 
 -- ---- bulks
 
--- what entries of her own show their maker: they are whole with their moments and keys, and hers
+-- what these entries show the user who made all of them
 abbrev pub own_sightings : History → View
 own_sightings group = map (λ (e : Stamped). sighting own_parts true e) group
 
--- what the rows of a bulk are judged on: its caller's view, and behind it the bulk's own earlier entries
+-- what the rows of a user's bulk are judged on: the user's view, followed by what the bulk's own earlier entries show
+-- the user
 abbrev pub view_basis : ℕ → Basis View
 view_basis user = record {
   facts = λ V. facts_in_view (Some user) V;
@@ -68,12 +69,12 @@ abbrev pub judge_row : View → Stamp → BulkRow → Result Drawn Rule
 judge_row V stamp row =
     row_judged (facts_in_view (Some stamp.maker) V) (shown_in_view (Some stamp.maker) V) stamp row
 
--- Judge of a bulk: the first rule that it breaks as a whole, or the first row that breaks one, or the
--- entries of all rows and the receipt
+-- Judge of a bulk: the first rule that it breaks as a whole, or the first row that breaks one, or the entries of all
+-- rows and the receipt
 abbrev pub judge_bulk : View → BulkCall → Result Drawn Broken
 judge_bulk V bulk = bulk_judged (view_basis bulk.stamp.maker) V bulk
 
--- what a bulk comes to, by the same look-up
+-- what becomes of a bulk: its number is looked up among its caller's own entries, before Judge
 abbrev pub decide_bulk : View → BulkCall → Outcome Broken
 decide_bulk V bulk =
     settled (broken.Rule rules.NumberUsed) true bulk.stamp.key (kept_in_view V) (judge_bulk V bulk)

@@ -34,13 +34,13 @@ use Rattle.cr_policy.specs.ViewRetries.{kept_in_view}
 use Rattle.cr_policy.specs.Judge.{judge, decide, judge_bulk, decide_bulk, answer, needs_login}
 use Rattle.cr_policy.specs.Legal.{Legal, MayAsk}
 
--- StandingFromView: how a user stands, to any paper too, can be read off what she sees, whatever the history
+-- StandingFromView: a user's standing, at any paper too, can be read off the user's view, whatever the history
 abbrev pub StandingFromView : Type 0
 StandingFromView = (u paper : Option ℕ) (H : History) → standing_in_view u paper (view u H) ≡ standing_of u paper H
 
--- what is public can be read off what anybody sees, whatever the history: the deadlines, whether the response was
--- opened, who has registered, in which role, under which name, the papers, and which of them are accepted; and so can
--- how many of them are the reader's own, how many bytes she has uploaded, and how many comments she has written
+-- these facts can be read off every view, whatever the history: the deadlines, whether the response was opened, the
+-- accounts with their roles and names, the papers, and which of them are accepted; besides, how many of the papers the
+-- reader submitted, how many bytes the reader has uploaded, and how many comments the reader has written
 pub record PublicFactsFromView (u : Option ℕ) (H : History) : Type 0 where
   pub deadlines : (phase : Phase) → deadline_in_view phase (view u H) ≡ deadline_of phase H
   pub had_response : had_response_in_view (view u H) ≡ had_response_of H
@@ -52,9 +52,9 @@ pub record PublicFactsFromView (u : Option ℕ) (H : History) : Type 0 where
   pub own_comments : own_comments_in_view (view u H) ≡ own_comments_of u H
   pub number : (name : List ℕ) → number_in_view name (view u H) ≡ number_of name H
 
--- ViewSuffices: on a legal history, what checks of role on the tables give of a command, of a bulk or of a query is
--- what the caller's view alone gives; and so is what a command or a bulk comes to that may have a number, by these and
--- by what the history keeps of it
+-- ViewSuffices: on a legal history the checks on the tables give of a command, a bulk or a query what the caller's view
+-- alone gives. With a number too, what becomes of a command or a bulk is the same by what the history keeps of the
+-- number as by the view.
 pub record ViewSuffices : Type 0 where
   pub commands : (H : History) (call : Call) → Legal H → MayAsk H (command_wants_login call.command) call.caller
       → judge (view call.caller H) call ≡ judge_by_role (tables_of H) call
@@ -71,41 +71,43 @@ pub record ViewSuffices : Type 0 where
   pub queries : (u : Option ℕ) (H : History) (query : Query) → Legal H
       → MayAsk H (needs_login (view None H) query) u → answer u (view u H) query ≡ answer_by_role (tables_of H) u query
 
--- KeptFromView: what was accepted under a number of hers can be read off what a user sees, whatever the history
+-- KeptFromView: what was accepted under a number of a user's can be read off the user's view, whatever the history
 abbrev pub KeptFromView : Type 0
 KeptFromView = (u : Option ℕ) (H : History) (number : ℕ) → kept_in_view (view u H) number ≡ kept_of u H number
 
--- these entries of the history, if any, are one command's, and stand one behind another
+-- these entries, if any, are one command's in the history, next to each other
 abbrev pub IsOneGroup : History → List Stamped → Type 0
 IsOneGroup H [] = Unit {0}
 IsOneGroup H (e ∷ es) =
     (before : History) × (entries : List Entry) × (after : History)
     × (e ∷ es ≡ grouped e.stamp entries) × (H ≡ before ++ (e ∷ es) ++ after)
 
--- NumbersOnce: on a legal history all entries that a user made by commands of one number are one command's: of what
--- was accepted each number of hers was given once
+-- NumbersOnce: on a legal history all entries that a user made by commands of one number are one command's. So of
+-- accepted commands each number of a user's was given once.
 abbrev pub NumbersOnce : Type 0
 NumbersOnce = (H : History) (user number : ℕ) → Legal H → IsOneGroup H (kept_under user number H)
 
--- DeclaredFromView: on a legal history, whom a paper's authors declared in conflict with it can be
--- read off what an author of it sees
+-- DeclaredFromView: on a legal history, the users whom a paper's authors declared in conflict with it can be read off
+-- every author's view
 abbrev pub DeclaredFromView : Type 0
 DeclaredFromView =
     (u : Option ℕ) (p : ℕ) (H : History) → Legal H → IsTrue (is_author u p H)
     → declared_in_view u p (view u H) ≡ declared_by_authors p H
 
--- a legal history keeps the invariants, and no command's entries are cut off in it
+-- the history keeps the invariants, and no command's entries are cut off in it
 pub record IsKept (H : History) : Type 0 where
   pub invariants : Invariants H
   pub whole : IsWhole H
 
+-- LegalKeeps: every legal history keeps the invariants, and no command's entries are cut off in it
 abbrev pub LegalKeeps : Type 0
 LegalKeeps = (H : History) → Legal H → IsKept H
 
--- a digest that is shown stands beside the reader's own number; nobody has one
+-- a sighting that shows a digest of a secret is of the reader's own registration; an unauthenticated caller is shown
+-- none
 abbrev pub IsOwnDigest : Option ℕ → Sighting → Type 0
 IsOwnDigest u s = IsTrue (is_some s.digest) → IsTrue (is_user u s.user)
 
--- so a digest is its user's alone: of the digests in a legal history a user is shown her own, and nobody is shown any
+-- DigestsAreOwn: of the digests in a legal history a user is shown only their own, and an unauthenticated caller none
 abbrev pub DigestsAreOwn : Type 0
 DigestsAreOwn = (u : Option ℕ) (H : History) → Legal H → AllByRecursion (IsOwnDigest u) (view u H)

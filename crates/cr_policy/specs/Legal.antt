@@ -19,7 +19,8 @@ use Rattle.cr_policy.specs.Judge.{judge, judge_bulk}
 
 -- ---- who calls
 
--- a user who has registered, or nobody where no login is wanted
+-- the caller is a user who has registered, or is unauthenticated and `login`, which says whether authentication is
+-- required, is false
 abbrev pub MayAsk : History → Bool → Option ℕ → Type 0
 MayAsk H login None = IsFalse login
 MayAsk H login (Some user) = IsRegistered H user
@@ -29,46 +30,50 @@ abbrev pub IsUser : History → Option ℕ → Type 0
 IsUser H None = ⊥
 IsUser H (Some user) = IsRegistered H user
 
--- a user who has registered where a login is wanted, else nobody
+-- if authentication is required (the `Bool`), the caller is a user who has registered; else the caller is
+-- unauthenticated
 abbrev pub CallsAs : History → Bool → Option ℕ → Type 0
 CallsAs H false caller = caller ≡ None
 CallsAs H true caller = IsUser H caller
 
--- whose command it is: nobody registers, and every other command is a registered user's
+-- the caller may be a command's: of a registration an unauthenticated one, of every other command a user who has
+-- registered
 abbrev pub IsCaller : History → Option ℕ → Command → Type 0
 IsCaller H caller command = CallsAs H (command_wants_login command) caller
 
 -- ---- one call
 
--- a key is within its bounds, and a user's; nobody gives any, so that a registration has none
+-- the caller may give this number: within its bounds, and only a user; a command may have none, and a registration has
+-- none
 abbrev pub IsKeyOf : Option ℕ → Option RetryKey → Type 0
 IsKeyOf caller None = Unit {0}
 IsKeyOf None (Some key) = ⊥
 IsKeyOf (Some user) (Some key) = IsRetryKey key
 
--- its number is new: she has made no entry by a command of that number
+-- the number is new: the caller has made no entry by a command of that number; having none is new
 abbrev pub IsNewKey : History → Option ℕ → Option RetryKey → Type 0
 IsNewKey H caller None = Unit {0}
 IsNewKey H None (Some key) = ⊥
 IsNewKey H (Some user) (Some key) = IsUnused H user key.number
 
--- the stamp of a command that has none, so that its number is always new
+-- the stamp of a command without a number, which is always new
 abbrev pub unnumbered : Stamp → Stamp
 unnumbered stamp = stamp_by stamp.maker stamp.at None
 
--- the caller may give it, and its parts, its moment and its key are within the bounds
+-- the call may be given: the caller may give the command, and its parts, its timestamp and its number are within the
+-- bounds
 pub record IsGiven (H : History) (call : Call) : Type 0 where
   pub caller : IsCaller H call.caller call.command
   pub bounded : IsBoundedCommand call.command
   pub moment : IsMoment call.at
   pub key : IsKeyOf call.caller call.key
 
--- so it is, and its number is new
+-- the call may be given (`IsGiven`), and its number is new
 pub record IsAllowed (H : History) (call : Call) : Type 0 where
   pub given : IsGiven H call
   pub unused : IsNewKey H call.caller call.key
 
--- a history, and behind it the group that is drawn; as it is where a rule is broken
+-- the history followed by the group that is drawn; the history itself if a rule is broken
 abbrev pub followed_by : {E : Type 0} → History → Result Drawn E → History
 followed_by H (Ok drawn) = H ++ drawn.group
 followed_by H (Err refusal) = H
@@ -79,39 +84,41 @@ step H call = followed_by H (judge (view call.caller H) call)
 
 -- ---- one bulk
 
--- she is a user who has registered, there are no more rows than a bulk may have, and there are such a moment and key
+-- the bulk may be given: its caller is a user who has registered, it has no more rows than a bulk may have, and its
+-- timestamp and number are within the bounds
 pub record IsBulkGiven (H : History) (bulk : BulkCall) : Type 0 where
   pub caller : IsRegistered H bulk.stamp.maker
   pub bounded : IsBoundedBulk bulk.rows
   pub moment : IsMoment bulk.stamp.at
   pub key : IsKeyOrNone bulk.stamp.key
 
--- so it is, and its number is new
+-- the bulk may be given (`IsBulkGiven`), and its number is new
 pub record IsBulkAllowed (H : History) (bulk : BulkCall) : Type 0 where
   pub given : IsBulkGiven H bulk
   pub unused : IsNewKey H (Some bulk.stamp.maker) bulk.stamp.key
 
--- Step of a bulk: the history behind it, by what Judge gives on the caller's view
+-- Step of a bulk: the history after it, by what Judge gives on the caller's view
 abbrev pub bulk_step : History → BulkCall → History
 bulk_step H bulk = followed_by H (judge_bulk (view (Some bulk.stamp.maker) H) bulk)
 
 -- ---- many calls
 
--- what leads on: a command or a bulk
+-- what leads from one history to the next: a command or a bulk
 pub data Move : Type 0 where
   calls : Call → Move
   bulks : BulkCall → Move
 
--- it is allowed when its turn comes, and what history it leads to
+-- the move is allowed on this history
 abbrev pub IsMoveAllowed : History → Move → Type 0
 IsMoveAllowed H (calls call) = IsAllowed H call
 IsMoveAllowed H (bulks bulk) = IsBulkAllowed H bulk
 
+-- the history after the move
 abbrev pub moved : History → Move → History
 moved H (calls call) = step H call
 moved H (bulks bulk) = bulk_step H bulk
 
--- each move is allowed when its turn comes, and they lead from one history to the other
+-- each move is allowed on the history to which those before it lead, and all lead from the first history to the last
 abbrev pub LeadsTo : History → List Move → History → Type 0
 LeadsTo from [] to = from ≡ to
 LeadsTo from (move ∷ moves) to = IsMoveAllowed from move × LeadsTo (moved from move) moves to

@@ -74,8 +74,8 @@ part_number key = 28
 abbrev pub these : List Part → Part → Bool
 these parts part = list_any (λ p. part_number p == part_number part) parts
 
--- the part belongs to the whole of an entry, whatever its kind: to its numbers and bytes, so it
--- isn't who made it, when or by which number, and no mark
+-- the part belongs to the whole of an entry, whatever its kind: it is one of its numbers and bytes, and neither who
+-- made the entry, when or by which number, nor a mark
 abbrev pub whole : Part → Bool
 whole user = true
 whole name = true
@@ -107,10 +107,10 @@ whole at = false
 whole until = true
 whole key = false
 
--- it does, or is one of these besides
+-- the part belongs to the whole of an entry, or is one of these
 abbrev pub whole_and : List Part → Part → Bool
 whole_and parts part = whole part || these parts part
 
--- what is for its maker: the whole of it, when it was made, and by which number
+-- the part is one that the user who made an entry is shown of it: the whole, its timestamp, and its command's number
 abbrev pub own_parts : Part → Bool
 own_parts = whole_and (at ∷ key ∷ [])

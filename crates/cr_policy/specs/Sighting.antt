@@ -94,7 +94,7 @@ blank kind = record {
   key = None;
 }
 
--- one of this kind with the moment of its request and the key of its command, or that it has none, as every entry does
+-- an entry of this kind with what every entry has: its timestamp, and its command's number or that there is none
 abbrev pub under : Stamp → EntryKind → Sighting
 under stamp kind = record (blank kind) { at = Some stamp.at; key = Some stamp.key }
 
@@ -170,12 +170,12 @@ entire stamp (Responded paper text) = record (under stamp kinds.Responded) { pap
 
 -- ---- the parts that are shown
 
--- a part, where it is shown
+-- the part if it is shown, else `None`
 abbrev pub where_shown : {A : Type 0} → Bool → Option A → Option A
 where_shown shown None = None
 where_shown shown (Some x) = if shown then Some x else None
 
--- the sighting with those parts alone that `shows` picks
+-- the sighting with only those parts that `shows` picks
 abbrev pub masked : (Part → Bool) → Bool → Sighting → Sighting
 masked shows mine s = record {
   kind = s.kind;
@@ -212,6 +212,6 @@ masked shows mine s = record {
   key = where_shown (shows part.key) s.key;
 }
 
--- the entry with those parts alone
+-- the entry with only those parts that `shows` picks
 abbrev pub sighting : (Part → Bool) → Bool → Stamped → Sighting
 sighting shows mine e = masked shows mine (entire e.stamp e.entry)

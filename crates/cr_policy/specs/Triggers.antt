@@ -1,5 +1,5 @@
--- The trigger table: which parts of an entry a reader sees, judged at the end of the history (the triggers and
--- bounds of CoCon, CAV 2014).
+-- The visibility policy, as a trigger table: which parts of an entry a reader is shown, judged at the end of the history
+-- (the triggers and bounds of CoCon, CAV 2014).
 use Rattle.std.specs.Prelude.{ℕ, Bool, true, false, not, List, [], ◌∷◌, Option, Some, ◌&&◌, ◌||◌}
 use Rattle.std.specs.List.{list_any}
 use Rattle.cr_base.specs.declared.entry.Entry.{Entry}
@@ -31,7 +31,7 @@ use Rattle.cr_policy.specs.Part as part
 use Rattle.cr_policy.specs.Part.{Part, these, whole, whole_and}
 
 -- what the table asks at the end of the history: who reads, the phase, whether the response was opened, the mode, the
--- reader's role, her ties to each paper (whether she is an author, in conflict, an external), which user is an author
+-- reader's role, which papers the reader is an author of, in conflict with, or an external of, which user is an author
 -- of which paper, and which papers are accepted
 pub record Reader : Type 0 where
   pub number : Option ℕ
@@ -60,7 +60,7 @@ reader u H = record {
   accepted = λ p. is_accepted p H;
 }
 
--- how the reader stands to a paper; no row asks whether she reviews it
+-- the reader's standing at a paper; no row asks whether the reader reviews it
 abbrev pub standing_to : Reader → ℕ → Standing
 standing_to r p = record {
   phase = r.now;
@@ -72,13 +72,14 @@ standing_to r p = record {
   external = r.external p;
 }
 
--- what stands around an entry: the history before it, and what follows it
+-- the history before an entry, and the history after it
 pub record Around : Type 0 where
   pub before : History
   pub after : History
 
 -- ---- who sees
 
+-- every reader, and an unauthenticated caller too
 abbrev pub everyone : Bool
 everyone = true
 
@@ -94,7 +95,7 @@ authors r p = r.author p
 abbrev pub members : Reader → Bool
 members r = is_member r.rank
 
--- the mode shows members and externals who wrote
+-- the mode shows members and externals who wrote a paper, and who reviews it or comments on it
 abbrev pub unless_anonymous : Reader → Bool
 unless_anonymous r = not (is_anonymous r.mode)
 
@@ -104,12 +105,12 @@ in_open_mode r = is_overt r.mode
 
 -- ---- which entry of its series
 
--- none of the entries tells of it
+-- no entry of the history tells a value of this fact
 abbrev pub none_in : {A : Type 0} → (Entry → List A) → History → Bool
 none_in told H = is_nothing (all_told told H)
 
--- none of these entries is of the same series as this one: a paper's texts, its content, the review under a label,
--- or the decision; true of every kind that has no series
+-- no entry of the history is of one series with this one: a paper's texts, its contents, the forms under a label, or
+-- the decisions on it; true of every kind that has no series
 abbrev pub none_alike : Entry → History → Bool
 none_alike (Registered user name digest) H = true
 none_alike (Named user role) H = true
@@ -134,10 +135,9 @@ none_alike (Invited paper user) H = true
 none_alike (Uninvited paper user) H = true
 none_alike (Responded paper text) H = true
 
--- What a row may ask of where an entry stands: whether it is the first of its series; the last; the last of those
--- before the response was opened, and of those before the discussion was; and whether it was made when the discussion
--- was opened already. To an entry of a kind that has no series none is alike, so it counts as the first and as the
--- last; no row of such a kind asks.
+-- what a row may ask of an entry's place: whether it is the first of its series, the last, the last before the response
+-- was opened, the last before the discussion was opened, and whether the discussion had been opened when it was made.
+-- An entry of a kind that has no series counts as first and last; no row of such a kind asks.
 pub record Position : Type 0 where
   pub first : Bool
   pub last : Bool
@@ -145,7 +145,7 @@ pub record Position : Type 0 where
   pub last_before_discussion : Bool
   pub from_discussion : Bool
 
--- the position of an entry that stands there
+-- the position of an entry between these histories
 abbrev pub position_of : Around → Entry → Position
 position_of at e = record {
   first = none_alike e at.before;
@@ -157,20 +157,21 @@ position_of at e = record {
 
 -- ---- the table
 
--- one row: whether it applies to the reader, and the parts that it shows then
+-- one row of the table: whether it applies to the reader, and the parts that it shows then
 pub record TriggerRow : Type 0 where
   pub applies : Bool
   pub parts : Part → Bool
 
+-- `applies see parts`: the row that shows these parts if it applies
 infix 90 ◌see◌
 abbrev pub ◌see◌ : Bool → (Part → Bool) → TriggerRow
 applies see parts = record { applies = applies; parts = parts }
 
--- no part beside the kind and the paper
+-- no part besides the kind and the paper, which are always shown
 abbrev pub paper_alone : Part → Bool
 paper_alone = these []
 
--- the rows for a reviewer who is assigned to the paper or unassigned from it
+-- the rows for an assignment to the paper or its end, which `by` made and which names `user`
 abbrev pub seat_rows : Reader → ℕ → ℕ → List TriggerRow
 seat_rows r paper user =
     user_named r user see whole
@@ -182,26 +183,29 @@ seat_rows r paper user =
     ∷ (authors r paper && in_open_mode r && authors_see_reviewers r.now) see these (part.user ∷ part.ordinal ∷ [])
     ∷ []
 
--- the rows for a user who is invited to the paper from outside the committee, or is no longer
+-- the rows for an invitation to the paper or its end, which `by` made and which names `user`
 abbrev pub invite_rows : Reader → ℕ → ℕ → List TriggerRow
 invite_rows r paper user =
     user_named r user see whole
     ∷ is_clear_chair (standing_to r paper) see whole
     ∷ []
 
--- the reader is a member in no conflict with the paper, and reads its reviews
+-- the reader is a member in no conflict with the paper, and the phase is one in which such members read its reviews
 abbrev pub reads_reviews : Reader → ℕ → Bool
 reads_reviews r paper = is_clear_member (standing_to r paper) && members_read_reviews r.now
 
--- and reads the comments on it
+-- the reader is a member in no conflict with the paper, and the phase is one in which such members read the comments on
+-- it
 abbrev pub reads_comments : Reader → ℕ → Bool
 reads_comments r paper = is_clear_member (standing_to r paper) && members_read_comments r.now
 
--- and reads what its authors responded
+-- the reader is a member in no conflict with the paper, and the phase is one in which such members read what its
+-- authors responded
 abbrev pub reads_responses : Reader → ℕ → Bool
 reads_responses r paper = is_clear_member (standing_to r paper) && members_read_responses r.now
 
--- and reads what is decided of it
+-- the reader is a member in no conflict with the paper, and the phase is one in which such members read the decisions
+-- on it
 abbrev pub reads_decisions : Reader → ℕ → Bool
 reads_decisions r paper = is_clear_member (standing_to r paper) && members_read_decisions r.now
 
@@ -209,11 +213,12 @@ reads_decisions r paper = is_clear_member (standing_to r paper) && members_read_
 abbrev pub published : Reader → ℕ → Bool
 published r paper = is_published r.now (r.accepted paper)
 
--- members are told who wrote what they discuss: chairs always
+-- a member who reads the comments on a paper is told who wrote them: a chair in no conflict with it always, others
+-- unless the mode is anonymous
 abbrev pub names_writers : Reader → ℕ → Bool
 names_writers r paper = is_clear_chair (standing_to r paper) || unless_anonymous r
 
--- the rows for each kind of entry; `by` is its maker
+-- the rows for each kind of entry at this position; `by` is the user who made it
 abbrev pub rows : Reader → Position → ℕ → Entry → List TriggerRow
 rows r at by (Registered user name digest) =
     everyone see these (part.user ∷ part.name ∷ [])
@@ -310,10 +315,10 @@ rows r at by (Responded paper text) =
     ∷ reads_responses r paper see whole
     ∷ []
 
--- whether a row applies
+-- one of the rows applies
 abbrev pub applies_any : List TriggerRow → Bool
 applies_any rows = list_any (λ (row : TriggerRow). row.applies) rows
 
--- whether a row that applies shows the part
+-- one of the rows applies and shows the part
 abbrev pub shows : List TriggerRow → Part → Bool
 shows rows p = list_any (λ (row : TriggerRow). row.parts p && row.applies) rows

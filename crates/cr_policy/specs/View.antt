@@ -8,27 +8,30 @@ use Rattle.cr_policy.specs.Sighting.{Sighting, sighting}
 use Rattle.cr_policy.specs.Triggers.{Reader, reader, Around, position_of, TriggerRow}
 use Rattle.cr_policy.specs.Triggers.{rows, user_named, ◌see◌, applies_any, shows}
 
--- the rows of the table, and last the entry's own maker's, who sees it whole, and when she made it and by which number
+-- the rows of the table that are for the entry between these histories; and last one for the user who made it, who is
+-- shown the whole of it, its timestamp and its command's number
 abbrev pub rows_at : Reader → Around → Stamped → List TriggerRow
 rows_at r at e = rows r (position_of at e.entry) e.stamp.maker e.entry ++ user_named r e.stamp.maker see own_parts ∷ []
 
--- whether a row applies, and the parts of those that do, joined; the maker's own has the mark `mine`
+-- one of the entry's rows applies to the reader
 abbrev pub is_seen : Reader → Around → Stamped → Bool
 is_seen r at e = applies_any (rows_at r at e)
 
+-- the parts of the entry that a row shows the reader, with the mark `mine` if the reader made it
 abbrev pub joined : Reader → Around → Stamped → Sighting
 joined r at e = sighting (shows (rows_at r at e)) (user_named r e.stamp.maker) e
 
--- Sight: what the entry shows the reader; nothing where no row applies
+-- Sight: what the entry shows the reader; nothing if no row applies
 abbrev pub sight : Reader → Around → Stamped → List Sighting
 sight r at e = given (is_seen r at e) (joined r at e)
 
--- what each of the entries shows, where `before` stand before them
+-- what each entry of the second history shows the reader, in order; the first history is before it
 abbrev pub sights : Reader → History → History → List Sighting
 sights r before [] = []
 sights r before (e ∷ after) =
     sight r (record { before = before; after = after }) e ++ sights r (before ++ e ∷ []) after
 
+-- what a user may see of a history: sightings, in order
 abbrev pub View : Type 0
 View = List Sighting
 

@@ -1,5 +1,5 @@
--- ViewFacts and Quotas: what a view says of the conference, of its papers and of its
--- reader, folds over the view alone.
+-- ViewFacts and Quotas: what a view says of the conference, of its papers and of its reader, by folds over the view. A
+-- definition ending in `_seen` gives what one sighting tells of a fact, at most one value.
 use Rattle.std.specs.Prelude.{ℕ, Bool, true, false, List, [], ◌∷◌, Option, Some, None, is_some}
 use Rattle.std.specs.Prelude.{length, map, filter, not, ◌==◌, ◌&&◌, ◌||◌, ◌++◌, if◌then◌else◌}
 use Rattle.std.specs.List.{flat_map, list_any}
@@ -28,7 +28,7 @@ use Rattle.cr_base.specs.Words.{is_member}
 use Rattle.cr_policy.specs.Sighting.{Sighting}
 use Rattle.cr_policy.specs.View.{View}
 
--- the values, where the test holds
+-- the values, if the test holds; else none
 abbrev pub only : {A : Type 0} → Bool → List A → List A
 only test [] = []
 only test (x ∷ xs) = if test then x ∷ xs else []
@@ -75,8 +75,7 @@ abbrev pub upload_shown : Option ℕ → Option (List ℕ) → List Upload
 upload_shown (Some version) (Some content) = record { version = version; content = content } ∷ []
 upload_shown _ _ = []
 
--- the seat that is shown, of the kinds of entry that give a user hers: the ordinal of an
--- assignment, and that it is gone
+-- what a sighting of this kind says of a user's seat: the ordinal of an assignment, or `None` for the end of one
 abbrev pub ordinal_by_kind : EntryKind → Option ℕ → List (Option ℕ)
 ordinal_by_kind kinds.Assigned ordinal = map (λ (o : ℕ). Some o) (listed ordinal)
 ordinal_by_kind kinds.Unassigned ordinal = map (λ (o : ℕ). None) (listed ordinal)
@@ -106,8 +105,8 @@ tag_shown u mine (Some tag) (Some on) =
     else record { tag = record { tag = tag; owner = None }; on = on } ∷ []
 tag_shown u mine _ _ = []
 
--- the role that is shown, of the kinds of entry that give a user hers: the one to which she is named, and an account's
--- where she is dismissed
+-- what a sighting of this kind says of a user's role: the one to which it appoints them, or an account's if it
+-- dismisses them
 abbrev pub role_by_kind : EntryKind → Option Role → List Role
 role_by_kind kinds.Named role = listed role
 role_by_kind kinds.Dismissed role = Account ∷ []
@@ -133,6 +132,7 @@ of_kind kind s xs = if is_kind kind s then xs else []
 abbrev pub phase_seen : Sighting → List Phase
 phase_seen s = of_kind kinds.PhaseSet s (listed s.phase)
 
+-- the mode that the sighting sets
 abbrev pub mode_seen : Sighting → List Mode
 mode_seen s = of_kind kinds.ModeSet s (listed s.mode)
 
@@ -144,11 +144,11 @@ deadline_seen phase s = of_kind kinds.DeadlineSet s (deadline_shown phase s.phas
 abbrev pub paper_seen : Sighting → List ℕ
 paper_seen s = of_kind kinds.Submitted s (listed s.paper)
 
--- the same, where it is the reader's own
+-- the paper that the sighting submits, if it is the reader's own
 abbrev pub own_paper_seen : Sighting → List ℕ
 own_paper_seen s = only s.mine (paper_seen s)
 
--- the author whom it gives the paper
+-- the author whom the sighting gives the paper
 abbrev pub author_seen : ℕ → Sighting → List ℕ
 author_seen p s = only (is_number s.paper p) (author_by_kind s.kind s.by s.user)
 
@@ -156,11 +156,12 @@ author_seen p s = only (is_number s.paper p) (author_by_kind s.kind s.by s.user)
 abbrev pub conflict_seen : Option ℕ → ℕ → Sighting → List Bool
 conflict_seen u p s = only (is_number s.paper p && is_user u s.user) (of_kind kinds.Conflict s (listed s.on))
 
--- whom it names in a conflict with the paper
+-- the user whom the sighting names in a conflict with the paper
 abbrev pub conflict_user_seen : ℕ → Sighting → List ℕ
 conflict_user_seen p s = only (is_number s.paper p) (of_kind kinds.Conflict s (listed s.user))
 
--- the same, where it is the reader's own or names another than her
+-- the user whom the sighting names in a conflict with the paper, if the sighting is the reader's own or the user isn't
+-- the reader
 abbrev pub own_or_other_seen : Option ℕ → ℕ → Sighting → List ℕ
 own_or_other_seen u p s =
     only (is_number s.paper p && (s.mine || not (is_user u s.user))) (of_kind kinds.Conflict s (listed s.user))
@@ -169,10 +170,12 @@ own_or_other_seen u p s =
 abbrev pub bid_seen : Option ℕ → ℕ → Sighting → List ℕ
 bid_seen u p s = only (is_number s.paper p && is_user u s.by) (of_kind kinds.Bid s (listed s.value))
 
+-- the reader's bid on the paper
 abbrev pub own_bid_seen : ℕ → Sighting → List ℕ
 own_bid_seen p s = only (is_number s.paper p && s.mine) (of_kind kinds.Bid s (listed s.value))
 
--- the ordinal under which the user reviews the paper from here on, none where she no longer does
+-- the ordinal under which the user reviews the paper from this sighting on: `Some` if it assigns the user, `None` if it
+-- unassigns them
 abbrev pub ordinal_seen : Option ℕ → ℕ → Sighting → List (Option ℕ)
 ordinal_seen u p s = only (is_number s.paper p && is_user u s.user) (ordinal_by_kind s.kind s.ordinal)
 
@@ -180,12 +183,13 @@ ordinal_seen u p s = only (is_number s.paper p && is_user u s.user) (ordinal_by_
 abbrev pub invite_seen : Option ℕ → ℕ → Sighting → List Bool
 invite_seen u p s = only (is_number s.paper p && is_user u s.user) (invite_by_kind s.kind)
 
--- the reviewer whom it gives the paper, and the ordinal of the one whom it takes
+-- the reviewer whom the sighting assigns to the paper
 abbrev pub assigned_seen : ℕ → Sighting → List SeatTold
 assigned_seen p s =
     only (is_number s.paper p) (of_kind kinds.Assigned s
     (map (λ (o : ℕ). record { ordinal = o; kind = s.review_kind; user = s.user }) (listed s.ordinal)))
 
+-- the ordinal of the reviewer whom the sighting unassigns from the paper
 abbrev pub unassigned_seen : ℕ → Sighting → List ℕ
 unassigned_seen p s = only (is_number s.paper p) (of_kind kinds.Unassigned s (listed s.ordinal))
 
@@ -195,6 +199,7 @@ form_seen p o s =
     only (is_number s.paper p && is_number s.ordinal o)
     (of_kind kinds.Reviewed s (form_shown s.version s.score s.confidence s.to_authors s.to_pc))
 
+-- the form of the paper that the sighting adds, if it is the reader's own
 abbrev pub own_form_seen : ℕ → Sighting → List FormTold
 own_form_seen p s =
     only (is_number s.paper p && s.mine)
@@ -208,6 +213,7 @@ done_seen p o s = only (is_number s.paper p && is_number s.ordinal o) (of_kind k
 abbrev pub comment_seen : ℕ → Sighting → List CommentTold
 comment_seen p s = only (is_number s.paper p) (of_kind kinds.Commented s (comment_shown s.n s.by s.ordinal s.text))
 
+-- the number of the comment that the sighting adds, if it is the reader's own
 abbrev pub own_comment_seen : Sighting → List ℕ
 own_comment_seen s = only s.mine (of_kind kinds.Commented s (listed s.n))
 
@@ -223,6 +229,7 @@ tag_seen u p s = only (is_number s.paper p) (of_kind kinds.Tagged s (tag_shown u
 abbrev pub decision_seen : ℕ → Sighting → List Decision
 decision_seen p s = only (is_number s.paper p) (of_kind kinds.Decided s (listed s.decision))
 
+-- true, if the sighting shows that the paper is accepted
 abbrev pub accepted_seen : ℕ → Sighting → List Bool
 accepted_seen p s = only (is_number s.paper p) (of_kind kinds.Decided s (listed s.accepted))
 
@@ -230,11 +237,11 @@ accepted_seen p s = only (is_number s.paper p) (of_kind kinds.Decided s (listed 
 abbrev pub bidding_seen : Sighting → Bool
 bidding_seen s = is_kind kinds.PhaseSet s && shows_phase Bidding s.phase
 
--- and whether it opens the discussion
+-- the sighting sets the phase to the discussion
 abbrev pub discussion_seen : Sighting → Bool
 discussion_seen s = is_kind kinds.PhaseSet s && shows_phase Discussion s.phase
 
--- and whether it opens the response
+-- the sighting sets the phase to the response
 abbrev pub opening_response_seen : Sighting → Bool
 opening_response_seen s = is_kind kinds.PhaseSet s && shows_phase Response s.phase
 
@@ -242,6 +249,7 @@ opening_response_seen s = is_kind kinds.PhaseSet s && shows_phase Response s.pha
 abbrev pub title_seen : ℕ → Sighting → List (List ℕ)
 title_seen p s = only (is_number s.paper p) (text_by_kind s.kind s.title)
 
+-- the abstract that the sighting gives the paper
 abbrev pub abstract_seen : ℕ → Sighting → List (List ℕ)
 abstract_seen p s = only (is_number s.paper p) (text_by_kind s.kind s.abstract)
 
@@ -261,11 +269,12 @@ withdrawal_seen p s = only (is_number s.paper p) (of_kind kinds.Withdrawn s (tru
 abbrev pub registration_seen : Sighting → List Registration
 registration_seen s = of_kind kinds.Registered s (registration_shown s.user s.name)
 
--- the role to which it names the user, or an account's where it dismisses her
+-- the role that the user has from this sighting on: the one to which it appoints them, or an account's if it dismisses
+-- them
 abbrev pub role_seen : Option ℕ → Sighting → List Role
 role_seen u s = only (is_user u s.user) (role_by_kind s.kind s.role)
 
--- the user whom it registers under this name
+-- the number of the user whom the sighting registers under this name
 abbrev pub number_seen : List ℕ → Sighting → List ℕ
 number_seen name s = only (is_text name s.name) (of_kind kinds.Registered s (listed s.user))
 
@@ -287,7 +296,7 @@ deadline_in_view phase V = last_or None (flat_map (deadline_seen phase) V)
 abbrev pub had_response_in_view : View → Bool
 had_response_in_view V = list_any opening_response_seen V
 
--- the last role that the user was named to, where she wasn't dismissed since; else account
+-- the role of the last sighting that appoints the user or dismisses them; an account's if there is none
 abbrev pub role_in_view : Option ℕ → View → Role
 role_in_view u V = last_or Account (flat_map (role_seen u) V)
 
@@ -311,6 +320,7 @@ number_in_view name V = last (flat_map (number_seen name) V)
 abbrev pub authors_in_view : ℕ → View → List ℕ
 authors_in_view p V = flat_map (author_seen p) V
 
+-- the user is shown to be an author of the paper
 abbrev pub is_author_in_view : Option ℕ → ℕ → View → Bool
 is_author_in_view u p V = list_any (is_number u) (authors_in_view p V)
 
@@ -318,12 +328,13 @@ is_author_in_view u p V = list_any (is_number u) (authors_in_view p V)
 abbrev pub is_conflict_on_in_view : Option ℕ → ℕ → View → Bool
 is_conflict_on_in_view u p V = last_or false (flat_map (conflict_seen u p) V)
 
+-- the user is shown to be in conflict with the paper, as an author or by a declaration
 abbrev pub is_conflicted_in_view : Option ℕ → ℕ → View → Bool
 is_conflicted_in_view u p V = is_author_in_view u p V || is_conflict_on_in_view u p V
 
--- for an author: whom those conflicts name that are her own, or name another than her, or stand before the
--- bidding was opened. Where the history is legal, an author made each of these, and no others, so that they are the
--- history's `declared_by_authors` (`law_declared`): a view shows no maker
+-- for an author of the paper: the users named in those conflicts with it that are the author's own, name another user,
+-- or come before the bidding. On a legal history these are exactly those that authors declared (`declared_by_authors`,
+-- by `law_declared`), though a view shows no maker.
 abbrev pub declared_in_view : Option ℕ → ℕ → View → List ℕ
 declared_in_view u p V =
     flat_map (conflict_user_seen p) (until bidding_seen V) ++ flat_map (own_or_other_seen u p) (since bidding_seen V)
@@ -332,14 +343,15 @@ declared_in_view u p V =
 abbrev pub ordinal_in_view : Option ℕ → ℕ → View → Option ℕ
 ordinal_in_view u p V = last_or None (flat_map (ordinal_seen u p) V)
 
--- the last invitation shown of the user to the paper wasn't taken back since; and she is no member, and so invited
+-- the last invitation of the user to the paper that is shown didn't end since
 abbrev pub is_invited_in_view : Option ℕ → ℕ → View → Bool
 is_invited_in_view u p V = last_or false (flat_map (invite_seen u p) V)
 
+-- the user is shown to be an external of the paper: not on the committee, and invited
 abbrev pub is_external_in_view : Option ℕ → ℕ → View → Bool
 is_external_in_view u p V = not (is_member (role_in_view u V)) && is_invited_in_view u p V
 
--- what a view says of how its reader stands to the conference, and to a paper, if one is named
+-- what a view says of its reader's standing, at a paper, if one is named
 abbrev pub standing_in_view : Option ℕ → Option ℕ → View → Standing
 standing_in_view u paper V = record {
   phase = phase_in_view V;
@@ -357,15 +369,17 @@ standing_in_view u paper V = record {
 abbrev pub bid_in_view : Option ℕ → ℕ → View → Option ℕ
 bid_in_view u p V = last (flat_map (bid_seen u p) V)
 
+-- the reader's last bid on the paper
 abbrev pub own_bid_in_view : ℕ → View → Option ℕ
 own_bid_in_view p V = last (flat_map (own_bid_seen p) V)
 
+-- the last bid on the paper of each user whose bids are shown
 abbrev pub bids_in_view : ℕ → View → List BidTold
 bids_in_view p V =
     flat_map (λ (a : AccountLine). map (λ (value : ℕ). record { user = a.user; value = value })
     (listed (bid_in_view (Some a.user) p V))) (accounts_in_view V)
 
--- whoever was assigned to the paper, as far as that is shown, by label
+-- the users who were assigned to the paper, as far as they are shown, by label
 abbrev pub seats_in_view : ℕ → View → List SeatTold
 seats_in_view p V = flat_map (assigned_seen p) V
 
@@ -381,24 +395,28 @@ reviewers_in_view p V = seats_left (flat_map (unassigned_seen p) V) (seats_in_vi
 abbrev pub forms_in_view : ℕ → ℕ → View → List FormTold
 forms_in_view p o V = flat_map (form_seen p o) V
 
+-- the last form under the paper's label of this ordinal that is shown
 abbrev pub last_form_in_view : ℕ → ℕ → View → Option FormTold
 last_form_in_view p o V = last (forms_in_view p o V)
 
+-- the form under the paper's label of this ordinal to which its authors respond, as shown
 abbrev pub early_form_in_view : ℕ → ℕ → View → Option FormTold
 early_form_in_view p o V =
     if had_response_in_view V then last (forms_in_view p o (until opening_response_seen V)) else None
 
+-- the forms under the paper's label of this ordinal that the committee discusses, as shown
 abbrev pub forms_discussed_in_view : ℕ → ℕ → View → List FormTold
 forms_discussed_in_view p o V =
     listed (last (forms_in_view p o (until discussion_seen V))) ++ forms_in_view p o (since discussion_seen V)
 
--- the reader's own, which a reviewer reads until the discussion, and one from outside the committee from the reviewing
--- on: by the mark that they are hers, as the history's `own_forms_of` goes by their maker. The tables keep no maker of a
--- form, and have those under her label (`own_forms_in`): the same where whoever has written stays a reviewer
+-- the reader's own forms of the paper, which a reviewer reads until the discussion, and an external from the reviewing
+-- on: those with the mark `mine`, as the history's `own_forms_of` goes by the maker. The tables have no maker of a
+-- form, and take those under the reader's label (`own_forms_in`), which are these, since a user who has written a form
+-- stays a reviewer.
 abbrev pub own_forms_in_view : ℕ → View → List FormTold
 own_forms_in_view p V = flat_map (own_form_seen p) V
 
--- and whether there is one under the label
+-- a form is shown to be there under the paper's label of this ordinal
 abbrev pub is_written_in_view : ℕ → ℕ → View → Bool
 is_written_in_view p o V = last_or false (flat_map (done_seen p o) V)
 
@@ -420,11 +438,12 @@ tags_in_view u chair p V = tags_for u chair (tags_left (flat_map (tag_seen u p) 
 abbrev pub title_in_view : ℕ → View → Option (List ℕ)
 title_in_view p V = last (flat_map (title_seen p) V)
 
+-- the last abstract of the paper that is shown
 abbrev pub abstract_in_view : ℕ → View → Option (List ℕ)
 abstract_in_view p V = last (flat_map (abstract_seen p) V)
 
--- what is shown of what was uploaded to the paper, in order; where the reader is no author of it,
--- `uploads_told` leaves the last alone
+-- what is shown of what was uploaded to the paper, in order; of these `uploads_told` takes only the last, unless the
+-- reader is an author of the paper
 abbrev pub uploads_in_view : ℕ → View → List Upload
 uploads_in_view p V = flat_map (upload_seen p) V
 
@@ -472,10 +491,11 @@ facts_in_view u V = record {
   had_response = had_response_in_view V;
 }
 
--- of the users who have registered, those of whom this holds, by number
+-- the users who have registered of whom this holds, by number
 abbrev pub users_where : (ℕ → Bool) → View → List ℕ
 users_where test V = filter test (map (λ (a : AccountLine). a.user) (accounts_in_view V))
 
+-- what pages, contents and some rules read of a paper, by the view
 abbrev pub shown_in_view : Option ℕ → View → Shown
 shown_in_view u V = record {
   title = λ p. title_in_view p V;

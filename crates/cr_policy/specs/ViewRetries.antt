@@ -1,5 +1,5 @@
--- What a view keeps of the numbers of its reader's commands. The key of an entry is shown to its maker alone, who is
--- shown all of it.
+-- What a view keeps of the numbers of its reader's commands. The number of an entry is shown only to the user who made
+-- it, who is shown all of it.
 use Rattle.std.specs.Prelude.{ℕ, Bool, false, List, [], ◌∷◌, length, filter, Option, Some, None, unwrap_or}
 use Rattle.cr_base.specs.declared.entry.EntryKind.{EntryKind}
 use Rattle.cr_base.specs.declared.entry.EntryKind.TheVariants as kinds
@@ -28,13 +28,13 @@ abbrev pub mark_shown : Option (Option RetryKey) → List ℕ
 mark_shown None = []
 mark_shown (Some key) = key_mark key
 
--- the name of the user who is shown
+-- the name of the user who is shown; empty if none is
 abbrev pub name_shown : List AccountLine → Option ℕ → List ℕ
 name_shown accounts None = []
 name_shown accounts (Some user) = unwrap_or (name_in accounts user) []
 
--- what a command is answered by what its first entry shows its maker, by the kind; `name` is that of the user who is
--- given a role, or dismissed
+-- the receipt of a command, by the kind of its first entry and what that shows its actor; `name` is that of the user
+-- who is appointed to a role or dismissed
 abbrev pub receipt_shown : EntryKind → List ℕ → Sighting → Receipt
 receipt_shown kinds.Registered name s = receipts.User (unwrap_or s.user 0)
 receipt_shown kinds.Named name s = receipts.Named name (unwrap_or s.role Account)
@@ -59,7 +59,7 @@ receipt_shown kinds.Invited name s = receipts.Changed (unwrap_or s.paper 0)
 receipt_shown kinds.Uninvited name s = receipts.Changed (unwrap_or s.paper 0)
 receipt_shown kinds.Responded name s = receipts.Paper (unwrap_or s.paper 0)
 
--- what these sightings of one command's entries tell
+-- what is kept of a command whose entries show these sightings; `None` of none
 abbrev pub kept_shown : List AccountLine → View → Option KeptCall
 kept_shown accounts [] = None
 kept_shown accounts (s ∷ ss) = Some (record {
@@ -68,6 +68,6 @@ kept_shown accounts (s ∷ ss) = Some (record {
   entries = length (s ∷ ss);
 })
 
--- what the view keeps under a number: the reader's own entries that show it
+-- what the view keeps under a number: that of the reader's own entries that show it
 abbrev pub kept_in_view : View → ℕ → Option KeptCall
 kept_in_view V number = kept_shown (accounts_in_view V) (filter (λ (s : Sighting). shows_number number s.key) V)

@@ -34,7 +34,7 @@ no_key_of_own mine = if mine then Some None else None
 abbrev pub some_key : RetryKey
 some_key = record { number = 7; mark = codes "thirty-two bytes of bob's digest" }
 
--- alice registers and so is a chair, then bob registers; these are the digests of their secrets
+-- alice registers, and is a chair for that, and then bob registers; these are the digests of their secrets
 abbrev pub two_registrations : List ℕ → List ℕ → History
 two_registrations alice bob =
     stamped (stamp_by 1 morning None) true (Registered 1 (codes "alice") alice)
@@ -42,7 +42,7 @@ two_registrations alice bob =
     ∷ stamped (stamp_by 2 morning None) false (Registered 2 (codes "bob") bob)
     ∷ []
 
--- what a registration shows: the digest to its maker alone
+-- what a registration shows; the digest, if there is one here, and the mark of the reader's own
 abbrev pub account_shown : ℕ → List ℕ → Option (List ℕ) → Bool → Sighting
 account_shown user name digest mine =
     record (blank kinds.Registered) {
@@ -54,6 +54,7 @@ account_shown user name digest mine =
       key = no_key_of_own mine;
     }
 
+-- that a user becomes a chair, with the mark of the reader's own
 abbrev pub named_chair : ℕ → Bool → Sighting
 named_chair user mine =
     record (blank kinds.Named) {
@@ -64,12 +65,12 @@ named_chair user mine =
       key = no_key_of_own mine;
     }
 
--- what nobody sees of the two registrations: no digest
+-- what an unauthenticated caller sees of the two registrations: no digest
 abbrev pub seen_by_nobody : View
 seen_by_nobody =
     account_shown 1 (codes "alice") None false ∷ named_chair 1 false ∷ account_shown 2 (codes "bob") None false ∷ []
 
--- what alice sees: her own digest, and not bob's
+-- what alice sees of the two registrations: her own digest, and not bob's
 abbrev pub seen_by_alice : List ℕ → View
 seen_by_alice digest =
     account_shown 1 (codes "alice") (Some digest) true ∷ named_chair 1 true
@@ -82,22 +83,23 @@ abbrev pub made_anonymous : List ℕ → List ℕ → History
 made_anonymous alice bob =
     two_registrations alice bob ++ stamped (stamp_by 1 morning None) false (ModeSet Anonymous) ∷ []
 
--- and the phase
+-- then alice sets the mode and opens the submission
 abbrev pub submission_opened : List ℕ → List ℕ → History
 submission_opened alice bob =
     made_anonymous alice bob ++ stamped (stamp_by 1 morning None) false (PhaseSet Submission) ∷ []
 
--- and bob submits a paper
+-- then bob submits a paper
 abbrev pub one_submission : List ℕ → List ℕ → History
 one_submission alice bob =
     submission_opened alice bob
     ++ stamped (stamp_by 2 morning None) false (Submitted 1 (codes "Proofs") (codes "We prove.")) ∷ []
 
--- the mode and the phase that alice set, as she sees them
+-- the mode that alice set, as she sees it
 abbrev pub mode_shown : Sighting
 mode_shown =
     record (blank kinds.ModeSet) { mine = true; mode = Some Anonymous; at = Some morning; key = Some None }
 
+-- the phase that alice set, as she sees it
 abbrev pub submission_set : Sighting
 submission_set =
     record (blank kinds.PhaseSet) { mine = true; phase = Some Submission; at = Some morning; key = Some None }
@@ -106,7 +108,7 @@ submission_set =
 abbrev pub paper_seen_alone : Sighting
 paper_seen_alone = record (blank kinds.Submitted) { paper = Some 1 }
 
--- the submission as bob sees it, who made it and so is the paper's author
+-- the submission as bob sees it, who is the paper's author
 abbrev pub paper_seen_by_author : Sighting
 paper_seen_by_author =
     record (blank kinds.Submitted) {
@@ -157,7 +159,7 @@ abbrev pub one_conflict : List ℕ → List ℕ → List ℕ → List ℕ → Hi
 one_conflict alice bob carol dave =
     two_members alice bob carol dave ++ stamped (stamp_by 2 morning None) false (Conflict 1 3 true) ∷ []
 
--- and alice opens the bidding
+-- then there are two members and a conflict, and alice opens the bidding
 abbrev pub bidding_opened : List ℕ → List ℕ → List ℕ → List ℕ → History
 bidding_opened alice bob carol dave =
     one_conflict alice bob carol dave ++ stamped (stamp_by 1 morning None) false (PhaseSet Bidding) ∷ []
@@ -168,6 +170,7 @@ bidding_opened alice bob carol dave =
 abbrev pub row_about : List ℕ → List ℕ → List ℕ → BulkRow
 row_about action user tag = record { paper = codes "1"; action = action; user = user; tag = tag }
 
+-- four rows of a bulk
 abbrev pub four_rows : List BulkRow
 four_rows =
     row_about (codes "primary") (codes "dave") []
@@ -193,5 +196,6 @@ twice_assigned =
     ∷ row_about (codes "pcreview") (codes "dave") []
     ∷ []
 
+-- then alice sends a bulk
 abbrev pub bulk_given : List ℕ → List ℕ → List ℕ → List ℕ → History
 bulk_given alice bob carol dave = bidding_opened alice bob carol dave ++ rows_added

@@ -28,14 +28,14 @@ abbrev pub TwoRegistrations : Type 0
 TwoRegistrations =
     (alice bob : List ℕ) → length alice ≡ 32 → length bob ≡ 32 → IsLegalWitness (two_registrations alice bob)
 
--- nobody sees a digest in it, and alice no other than her own
+-- an unauthenticated caller sees no digest in the two registrations, and alice none but her own
 abbrev pub DigestsHidden : Type 0
 DigestsHidden =
     (alice bob : List ℕ) → (view None (two_registrations alice bob) ≡ seen_by_nobody)
     × (view (Some 1) (two_registrations alice bob) ≡ seen_by_alice alice)
 
--- with a submission after them the history is legal too; of the paper alice, a chair, sees its number alone,
--- and bob, its author, the whole
+-- with a submission after the registrations the history is legal. Of the paper alice, a chair, sees only its number,
+-- and bob, its author, the whole.
 pub record IsSubmissionWitness (alice bob : List ℕ) : Type 0 where
   pub legal : Legal (one_submission alice bob)
   pub chair : role_of (Some 1) (one_submission alice bob) ≡ Chair
@@ -49,7 +49,7 @@ OneSubmission = (alice bob : List ℕ) → length alice ≡ 32 → length bob �
 
 -- with two members and a conflict after it, and the bidding opened, the history is legal. carol, the member whom the
 -- author declared, sees no abstract of the paper; dave, the other member, sees it, and in the anonymous mode not who
--- wrote the paper; alice, a chair, sees who did; and bob, its author, whom he declared
+-- wrote the paper; alice, a chair, sees who did; and bob, its author, sees whom he declared.
 pub record IsConflictWitness (H : History) : Type 0 where
   pub legal : Legal H
   pub conflicted : IsTrue (is_conflicted (Some 3) 1 H)
@@ -66,8 +66,8 @@ OneConflict =
     (alice bob carol dave : List ℕ) → length alice ≡ 32 → length bob ≡ 32 → length carol ≡ 32 → length dave ≡ 32
     → IsConflictWitness (bidding_opened alice bob carol dave)
 
--- with a bulk of the chair's after that the history is legal; another bulk is refused for its third row, which
--- breaks a rule only behind the second
+-- with a bulk of the chair's after that the history is legal; another bulk is refused for its third row, which breaks a
+-- rule only after the second
 pub record IsBulkWitness (before after : History) : Type 0 where
   pub accepted : judge_bulk (view (Some 1) before) (bulk_by 1 morning None four_rows)
       ≡ Ok (record { group = rows_added; receipt = receipts.Rows 4 })

@@ -76,22 +76,22 @@ either_told rows others tells tell told told_too (Second x) is = told_too x is
 abbrev pub is_journal : List ℕ → Bool
 is_journal path = ends_with eqb path (46 ∷ 99 ∷ 106 ∷ [])
 
--- two shelves: the one of journals, and the one of all else
+-- two shelves: one of journals, and one of all other stores
 pub record Sides (S T : Type 0) : Type 0 where
   pub journals : S
   pub others : T
 
--- at the path of a journal what one has there, and else what the other has
+-- at the path of a journal what the first says of the path, else what the second says
 abbrev pub by_path : {A : Type 0} → (List ℕ → A) → (List ℕ → A) → List ℕ → A
 by_path journals others path = cond (is_journal path) (journals path) (others path)
 
--- by_path for a proposition: the first at the path of a journal, else the second
+-- the first proposition at the path of a journal, which the `Bool` says, else the second
 abbrev pub side : Bool → Type 0 → Type 0 → Type 0
 side true journals others = journals
 side false journals others = others
 
--- At the path of a journal a keeper of the first kind may be taken back, and else one of the second; so each by the
--- shelf that opened it.
+-- at the path of a journal (the `Bool`) a keeper of the first kind may be taken back, else one of the second: each by
+-- the shelf that opened it
 abbrev pub MayBeShut : (List Bool → Type 0) → (List Bool → Type 0) → Bool → List Bool → Type 0
 MayBeShut first second true (true ∷ kind) = first kind
 MayBeShut first second false (false ∷ kind) = second kind

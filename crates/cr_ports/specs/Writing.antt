@@ -8,6 +8,7 @@ pub record Outlet : Type 0 where
   pub taken : Option Taken
   pub faults : ℕ
 
+-- what contracts see of a sink: what it has taken and its fault counter, by the members of its trait
 abbrev pub outlet_of : {O : Type 0} → (O → Option Taken) → (O → ℕ) → O → Outlet
 outlet_of taken faults sink = record { taken = taken sink; faults = faults sink }
 

@@ -37,11 +37,11 @@ use Rattle.cr_print.specs.Page.{page_content}
 use Rattle.cr_print.specs.Me.{me_content}
 use Rattle.cr_print.specs.Response.{response_content}
 
--- an answer to HEAD ends after its head (RFC 9110, section 9.3.2)
+-- the content, unless the request is one to HEAD, whose answer ends after its head (RFC 9110, section 9.3.2)
 abbrev pub unless_head : Bool → List ℕ → List ℕ
 unless_head is_head content = if is_head then [] else content
 
--- the head tells the content's length whether the content follows or not
+-- the answer with this head and content; the head tells the content's length also if the content doesn't follow
 abbrev pub answer_text : AnswerHead → List ℕ → Sending → List ℕ
 answer_text head content sending =
     head_text head (length content) sending ++ unless_head sending.is_head content
@@ -54,7 +54,7 @@ json_head status extra = record { status = status; media_type = Json; extra = ex
 abbrev pub served_text : List ℕ → Sending → List ℕ
 served_text content sending = answer_text (json_head Okay Nothing) content sending
 
--- a refused request
+-- the answer to a refused request
 unfoldable pub refusal_text : Refused → Sending → List ℕ
 refusal_text refused sending =
     answer_text (json_head (refused_status refused) (extra_of refused)) (refusal_content refused) sending
@@ -67,12 +67,12 @@ closing is_head at = record { is_head = is_head; closes = true; date = at }
 abbrev pub closing_text : Refusal → Bool → ℕ → List ℕ
 closing_text refusal is_head at = refusal_text (Closing refusal) (closing is_head at)
 
--- an accepted command
+-- the answer to an accepted command
 unfoldable pub receipt_text : Receipt → Sending → List ℕ
 receipt_text receipt sending =
     answer_text (json_head (receipt_status receipt) Nothing) (receipt_content receipt) sending
 
--- what everyone may know of the conference
+-- the answer with what everyone may know of the conference
 unfoldable pub conference_text : Conference → Sending → List ℕ
 conference_text conference sending = served_text (conference_content conference) sending
 
@@ -80,38 +80,43 @@ conference_text conference sending = served_text (conference_content conference)
 unfoldable pub list_text : List ℕ → List (List ℕ) → Sending → List ℕ
 list_text key texts sending = served_text (list_alone key texts) sending
 
--- the list of accounts, the deadlines of phases, the accepted papers, the reviews of a paper and the comments on it
+-- the answer with the accounts
 unfoldable pub accounts_text : List AccountLine → Sending → List ℕ
 accounts_text accounts sending = list_text (codes "accounts") (map account_text accounts) sending
 
+-- the answer with the deadlines of the phases
 unfoldable pub deadlines_text : List PhaseDeadline → Sending → List ℕ
 deadlines_text deadlines sending = list_text (codes "deadlines") (map phase_deadline_text deadlines) sending
 
+-- the answer with the accepted papers
 unfoldable pub papers_text : List AcceptedPaper → Sending → List ℕ
 papers_text papers sending = list_text (codes "papers") (map accepted_text papers) sending
 
+-- the answer with the reviews of a paper
 unfoldable pub reviews_text : List ReviewLine → Sending → List ℕ
 reviews_text reviews sending = list_text (codes "reviews") (map review_text reviews) sending
 
+-- the answer with the comments on a paper
 unfoldable pub comments_text : List CommentLine → Sending → List ℕ
 comments_text comments sending = list_text (codes "comments") (map comment_text comments) sending
 
--- the papers that a search finds, or how many they are
+-- the answer with the papers that a search finds
 unfoldable pub found_text : List FoundPaper → Sending → List ℕ
 found_text papers sending = served_text (found_content papers) sending
 
+-- the answer with how many papers a search finds
 unfoldable pub count_text : ℕ → Sending → List ℕ
 count_text n sending = served_text (count_content n) sending
 
--- a paper's page
+-- the answer with a paper's page
 unfoldable pub page_text : Page → Sending → List ℕ
 page_text page sending = served_text (page_content page) sending
 
--- what a user is told of themselves
+-- the answer with what a user is told of themselves
 unfoldable pub me_text : Me → Sending → List ℕ
 me_text me sending = served_text (me_content me) sending
 
--- what a paper's authors responded
+-- the answer with what a paper's authors responded
 unfoldable pub response_text : List ℕ → Sending → List ℕ
 response_text text sending = served_text (response_content text) sending
 
@@ -156,7 +161,7 @@ block_text sending (replies.Content content) = unless_head sending.is_head conte
 block_text sending (replies.Report text) = unless_head sending.is_head text
 block_text sending _ = []
 
--- a reply
+-- the answer with a reply
 abbrev pub reply_text : Reply → Sending → List ℕ
 reply_text reply sending = front_text sending reply ++ block_text sending reply
 

@@ -12,5 +12,6 @@ conference_members conference =
     ++ member_of (codes "papers") (Some (decimal conference.papers))
     ++ member_of (codes "phase") (Some (quoted (phase_name conference.phase)))
 
+-- the JSON object of what is told of the conference
 unfoldable pub conference_content : Conference → List ℕ
 conference_content conference = object_text (conference_members conference)

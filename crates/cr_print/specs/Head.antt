@@ -12,6 +12,7 @@ use Rattle.cr_print.specs.declared.status.Status.{Status}
 use Rattle.cr_print.specs.Dates.{date_line}
 use Rattle.cr_print.specs.Status.{code_of, phrase_of}
 
+-- the status line: the version, the code and the phrase (RFC 9112, section 4)
 unfoldable pub status_line : Status → List ℕ
 status_line status = codes "HTTP/1.1 " ++ code_digits (code_of status) ++ codes " " ++ phrase_of status ++ codes "\r\n"
 
@@ -22,18 +23,21 @@ extra_line Nothing = []
 extra_line Challenge = codes "WWW-Authenticate: Bearer realm=\"confd\"\r\n"
 extra_line (Allow resource) = codes "Allow: " ++ allow_text resource ++ codes "\r\n"
 
--- the registered names (RFC 8259, section 11; RFC 2046, sections 4.1 and 4.5.1)
+-- the registered name of a media type (RFC 8259, section 11; RFC 2046, sections 4.1 and 4.5.1)
 unfoldable pub media_type_name : MediaType → List ℕ
 media_type_name Json = codes "application/json"
 media_type_name PlainText = codes "text/plain; charset=utf-8"
 media_type_name OctetStream = codes "application/octet-stream"
 
+-- the field Content-Type
 unfoldable pub type_line : MediaType → List ℕ
 type_line media_type = codes "Content-Type: " ++ media_type_name media_type ++ codes "\r\n"
 
+-- the field Content-Length, for a content of n bytes
 unfoldable pub length_line : ℕ → List ℕ
 length_line n = codes "Content-Length: " ++ decimal n ++ codes "\r\n"
 
+-- the field Connection, if the connection closes after the answer
 unfoldable pub close_line : Bool → List ℕ
 close_line closes = if closes then codes "Connection: close\r\n" else []
 

@@ -1,11 +1,11 @@
--- The content that tells a user of herself.
+-- The content that tells users of themselves.
 use Rattle.std.specs.Prelude.{ℕ, List, ◌++◌, Some, codes, decimal}
 use Rattle.json.specs.Print.{quoted}
 use Rattle.cr_base.specs.Words.{role_name}
 use Rattle.cr_base.specs.declared.me.Me.{Me}
 use Rattle.cr_json.specs.Json.{Member, member_of, numbers_text, object_text}
 
--- the keys in the order of their bytes
+-- the members of what a user is told of themselves, in the order of their keys' bytes
 unfoldable pub me_members : Me → List Member
 me_members me =
     member_of (codes "assigned") (Some (numbers_text me.assigned))
@@ -18,5 +18,6 @@ me_members me =
     ++ member_of (codes "role") (Some (quoted (role_name me.role)))
     ++ member_of (codes "user") (Some (decimal me.user))
 
+-- the JSON object of what a user is told of themselves
 unfoldable pub me_content : Me → List ℕ
 me_content me = object_text (me_members me)

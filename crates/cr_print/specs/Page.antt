@@ -26,5 +26,6 @@ page_members page =
     ++ member_of (codes "versions") (option_map numbers_text page.versions)
     ++ member_of (codes "withdrawn") (option_map truth_text page.withdrawn)
 
+-- the JSON object of a paper's page
 unfoldable pub page_content : Page → List ℕ
 page_content page = object_text (page_members page)

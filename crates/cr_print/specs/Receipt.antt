@@ -10,6 +10,7 @@ use Rattle.cr_print.specs.declared.status.Status.TheVariants.{Okay, Created}
 use Rattle.cr_json.specs.Deadlines.{deadline_members}
 use Rattle.cr_json.specs.Json.{Member, bid_text, label_text, member_of, object_text}
 
+-- the status of an answer with this receipt
 unfoldable pub receipt_status : Receipt → Status
 receipt_status (User user) = Created
 receipt_status (Phase phase) = Okay
@@ -24,7 +25,7 @@ receipt_status (Comment n) = Created
 receipt_status (Rows n) = Okay
 receipt_status (Deadline phase until) = Okay
 
--- the keys in the order of their bytes
+-- the members of a receipt, in the order of their keys' bytes
 unfoldable pub receipt_members : Receipt → List Member
 receipt_members (User user) = member_of (codes "user") (Some (decimal user))
 receipt_members (Phase phase) = member_of (codes "phase") (Some (quoted (phase_name phase)))
@@ -40,5 +41,6 @@ receipt_members (Comment n) = member_of (codes "comment") (Some (decimal n))
 receipt_members (Rows n) = member_of (codes "rows") (Some (decimal n))
 receipt_members (Deadline phase until) = deadline_members phase until
 
+-- the JSON object of a receipt
 abbrev pub receipt_content : Receipt → List ℕ
 receipt_content receipt = object_text (receipt_members receipt)

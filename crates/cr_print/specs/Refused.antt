@@ -26,6 +26,7 @@ use Rattle.cr_print.specs.declared.status.Status.{Status}
 use Rattle.cr_print.specs.declared.status.Status.TheVariants as statuses
 use Rattle.cr_json.specs.Json.{Member, member_of, object_text}
 
+-- the name of a refusal of what is no request, after which the connection closes
 unfoldable pub closing_name : Refusal → List ℕ
 closing_name HeadTooLarge = codes "head_too_large"
 closing_name BadHttp = codes "bad_http"
@@ -34,6 +35,7 @@ closing_name LengthRequired = codes "length_required"
 closing_name BadLength = codes "bad_length"
 closing_name TooLarge = codes "too_large"
 
+-- the name of a broken rule
 unfoldable pub rule_name : BaseRule → List ℕ
 rule_name NameTaken = codes "name_taken"
 rule_name FullAccounts = codes "full_accounts"
@@ -74,6 +76,7 @@ rule_name StillAssigned = codes "still_assigned"
 rule_name AlreadyResponded = codes "already_responded"
 rule_name NoResponse = codes "no_response"
 
+-- the name of a refusal
 unfoldable pub refused_name : Refused → List ℕ
 refused_name (Closing refusal) = closing_name refusal
 refused_name NoRoute = codes "no_route"
@@ -87,6 +90,7 @@ refused_name (Row row rule) = codes "bulk_row"
 refused_name KeeperFault = codes "keeper_fault"
 refused_name NoMemory = codes "no_memory"
 
+-- the status of a refusal of what is no request
 unfoldable pub closing_status : Refusal → Status
 closing_status HeadTooLarge = statuses.HeaderFieldsTooLarge
 closing_status BadHttp = statuses.BadRequest
@@ -95,6 +99,7 @@ closing_status LengthRequired = statuses.LengthRequired
 closing_status BadLength = statuses.BadRequest
 closing_status TooLarge = statuses.ContentTooLarge
 
+-- the status of an answer that names a broken rule
 unfoldable pub rule_status : BaseRule → Status
 rule_status NameTaken = statuses.Conflict
 rule_status FullAccounts = statuses.Conflict
@@ -135,6 +140,7 @@ rule_status StillAssigned = statuses.Conflict
 rule_status AlreadyResponded = statuses.Conflict
 rule_status NoResponse = statuses.NotFound
 
+-- the status of a refusal
 unfoldable pub refused_status : Refused → Status
 refused_status (Closing refusal) = closing_status refusal
 refused_status NoRoute = statuses.NotFound
@@ -181,5 +187,6 @@ further_members NoMemory = []
 unfoldable pub refusal_members : Refused → List Member
 refusal_members refused = member_of (codes "error") (Some (quoted (refused_name refused))) ++ further_members refused
 
+-- the JSON object of a refusal
 unfoldable pub refusal_content : Refused → List ℕ
 refusal_content refused = object_text (refusal_members refused)

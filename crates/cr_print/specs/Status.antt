@@ -8,6 +8,7 @@ use Rattle.cr_print.specs.declared.status.Status.TheVariants.{LengthRequired, Co
 use Rattle.cr_print.specs.declared.status.Status.TheVariants.{HeaderFieldsTooLarge}
 use Rattle.cr_print.specs.declared.status.Status.TheVariants.{ServiceUnavailable, InsufficientStorage}
 
+-- the code of a status
 unfoldable pub code_of : Status → ℕ
 code_of Okay = 200
 code_of Created = 201
@@ -23,6 +24,7 @@ code_of HeaderFieldsTooLarge = 431
 code_of ServiceUnavailable = 503
 code_of InsufficientStorage = 507
 
+-- the phrase of a status
 unfoldable pub phrase_of : Status → List ℕ
 phrase_of Okay = codes "OK"
 phrase_of Created = codes "Created"

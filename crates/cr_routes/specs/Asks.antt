@@ -9,7 +9,7 @@ use Rattle.cr_routes.specs.declared.method.Method.TheVariants.{Get, Head, Post, 
 use Rattle.cr_base.specs.declared.ask.Ask.{Ask}
 use Rattle.cr_base.specs.declared.ask.Ask.TheVariants as asks
 
--- one line for each route, HEAD aside
+-- what a method at a path asks for, a line for each route; HEAD has none of its own
 abbrev pub route_at : Resource → Method → Option Ask
 route_at at.Register Post = Some asks.Register
 route_at at.Accepted Get = Some asks.AcceptedPapers
@@ -54,12 +54,12 @@ route_at at.Letter Get = Some asks.Letter
 route_at at.Plan Get = Some asks.Plan
 route_at _ _ = None
 
--- HEAD asks for what GET does
+-- the method, GET for HEAD, which asks for what GET does
 abbrev pub as_get : Method → Method
 as_get Head = Get
 as_get method = method
 
--- what a method at a path asks for
+-- what a method at a path asks for; `None` if the path doesn't have it
 abbrev pub ask_at : Resource → Method → Option Ask
 ask_at resource method = route_at resource (as_get method)
 

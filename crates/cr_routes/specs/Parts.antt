@@ -9,7 +9,7 @@ use Rattle.cr_routes.specs.declared.matched.Matched.{Matched}
 use Rattle.cr_routes.specs.declared.resource.Resource.{Resource}
 use Rattle.cr_routes.specs.Paths.{paths}
 
--- the parts between the slashes of a path; in front of its first slash stands an empty one
+-- the parts between the slashes of a path; before its first slash there is an empty one
 abbrev pub parts : List ℕ → List (List ℕ)
 parts path = slice_split (λ b. b == 47) path
 
@@ -23,30 +23,31 @@ abbrev pub has_bytes : List ℕ → Bool
 has_bytes [] = false
 has_bytes (b ∷ rest) = true
 
--- a parameter takes each part that isn't empty, another part of a listed path takes itself alone
+-- a part of a listed path takes a part of a path: a parameter each part that isn't empty, any other part only itself
 abbrev pub takes : List ℕ → List ℕ → Bool
 takes listed part = if is_parameter listed then has_bytes part else bytes_eq listed part
 
--- a path is as a listed path tells, part for part
+-- the path fits the listed path, part by part
 abbrev pub fits_parts : List (List ℕ) → List (List ℕ) → Bool
 fits_parts listed path = pointwise takes listed path
 
--- the parts that the parameters of a listed path take of such a path, in their order
+-- the parts of a path that the parameters of a listed path take, in order
 abbrev pub taken : List (List ℕ) → List (List ℕ) → List (List ℕ)
 taken [] path = []
 taken (listed ∷ more) [] = []
 taken (listed ∷ more) (part ∷ path) = if is_parameter listed then part ∷ taken more path else taken more path
 
--- the first and the second part, where they are there
+-- the first part, if there is one
 abbrev pub first_of : List (List ℕ) → Option (List ℕ)
 first_of [] = None
 first_of (part ∷ rest) = Some part
 
+-- the second part, if there is one
 abbrev pub second_of : List (List ℕ) → Option (List ℕ)
 second_of [] = None
 second_of (part ∷ rest) = first_of rest
 
--- a path's resource, and what its first and its second parameter took; none has a third
+-- a path's resource, and what its first and its second parameter took; no path has a third
 pub record FoundPath : Type 0 where
   pub resource : Resource
   pub first : Option (List ℕ)
@@ -56,15 +57,15 @@ pub record FoundPath : Type 0 where
 abbrev pub found_with : Resource → List (List ℕ) → FoundPath
 found_with resource parts = record { resource = resource; first = first_of parts; second = second_of parts }
 
--- what a path is found to be that fits a listed path
+-- what a path is found to be that fits this listed path
 abbrev pub found_as : List ℕ → List ℕ × Resource → FoundPath
 found_as path line = found_with line.1 (taken (parts line.0) (parts path))
 
--- what a path is found to be: the listed path that it fits
+-- what a path is found to be: the listed path that it fits; `None` if it fits none
 unfoldable pub found_at : List ℕ → Option FoundPath
 found_at path = option_map (found_as path) (find (λ line. fits_parts (parts line.0) (parts path)) paths)
 
--- the same of what the program has, which lends the parts
+-- what the program has of a path that was found, which lends the parts, as a value
 abbrev pub seen : Matched → FoundPath
 seen f =
     record {

@@ -10,8 +10,8 @@ use Rattle.cr_routes.specs.declared.resource.Resource.TheVariants.{Review, Revie
 use Rattle.cr_routes.specs.declared.resource.Resource.TheVariants.{PapersReport, ScoresReport}
 use Rattle.cr_routes.specs.declared.resource.Resource.TheVariants.{LoadReport, DecisionsReport, Letter, Plan}
 
--- each path, with its resource; a parameter is written in braces. They stand in the order in which the router keeps
--- them: by their bytes, a path behind those that it is the start of
+-- each path, with its resource; a parameter is in braces. They are in the order in which the router keeps them: by
+-- their bytes, a path after those that it is the start of.
 abbrev pub paths : List (List ℕ × Resource)
 paths =
     (codes "/accepted", Accepted) ∷

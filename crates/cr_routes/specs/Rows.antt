@@ -1,4 +1,4 @@
--- What the router holds, and what it finds, in matchit's own words.
+-- What the router holds, and what it finds, by matchit's own definitions.
 use Rattle.std.specs.Prelude.{ℕ, List, [], ◌∷◌, Bool, true, false, ◌&&◌, is_none, map, Result, Ok, Err}
 use Rattle.std.specs.Borrow.{Bor}
 use Rattle.std.specs.Str.{IsUtf8}
@@ -11,7 +11,7 @@ use Rattle.matchit.specs.declared.error.InsertError.{InsertError}
 use Rattle.cr_routes.specs.declared.resource.Resource.{Resource}
 use Rattle.cr_routes.specs.Paths.{paths}
 
--- a line of the program's table
+-- a line of the program's table, as a value
 abbrev pub line : Bor (List ℕ) × Resource → List ℕ × Resource
 line p = (p.0.now, p.1)
 
@@ -24,7 +24,7 @@ abbrev pub with_path : Result Scan InsertError → Resource → Rows → Rows
 with_path (Ok s) resource rows = placed (s.pattern, route_from s resource) rows
 with_path (Err e) resource rows = rows
 
--- the rows with these paths, added in their order
+-- the rows with these paths, added in order
 unfoldable pub added : List (List ℕ × Resource) → Rows → Rows
 added [] rows = rows
 added (p ∷ ps) rows = added ps (with_path (parse_route p.0) p.1 rows)
@@ -34,7 +34,7 @@ abbrev pub is_free : Result Scan InsertError → Rows → Bool
 is_free (Ok s) rows = is_none (nearest s.pattern rows)
 is_free (Err e) rows = false
 
--- each of these paths reads well, and conflicts with none before it
+-- each of these paths reads well, and conflicts with none of the rows and none before it
 unfoldable pub fits : List (List ℕ × Resource) → Rows → Bool
 fits [] rows = true
 fits (p ∷ ps) rows = is_free (parse_route p.0) rows && fits ps (with_path (parse_route p.0) p.1 rows)
@@ -43,11 +43,11 @@ fits (p ∷ ps) rows = is_free (parse_route p.0) rows && fits ps (with_path (par
 unfoldable pub the_rows : Rows
 the_rows = added paths []
 
--- what the parameters of a route took of a path, in their order
+-- what the parameters of a route took of a path, in order
 abbrev pub walked : List ℕ → List ℕ → List ℕ → List (ℕ × ℕ) → List (List ℕ)
 walked pattern text path names = map (λ pair. pair.1) (walk pattern text path names 0 0)
 
--- each of them is text
+-- each of these is UTF-8
 abbrev pub AreTexts : List (List ℕ) → Type 0
 AreTexts [] = Unit {0}
 AreTexts (part ∷ rest) = IsUtf8 part × AreTexts rest

@@ -1,15 +1,15 @@
 -- The grammar of searches (after the HotCRP manual's) over the symbols of a text, with how each query is spelled, the
--- tree that it is, how deep its items stand, and how many terms it has.
+-- tree that it is, how deep its items are nested, and how many terms it has.
 --
 --   query = spaces [ any ] spaces
 --   any   = all *( gap "OR" gap all )
 --   all   = item *( gap [ "AND" gap ] item )
 --   item  = "-" item | "NOT" gap item | "(" spaces any spaces ")" | term
 --
--- A gap is spaces, and may be empty at a parenthesis. Since a chunk is a longest run, two chunks never stand side by
--- side: so a gap between them has spaces wherever the symbols are those of a text, and nothing more is asked of it
--- here. Since spaces are a longest run too, a gap of a text has one run of them or none. Here it has any number, so
--- that what a reader makes of symbols needs no condition.
+-- A gap is spaces, and may be empty at a parenthesis. In a text's symbols two chunks are never next to each other,
+-- since a chunk is a longest run; so a gap between two of them has spaces, and the grammar need not say so. Spaces are
+-- a longest run too, so a gap of a text has one run of them or none. The grammar allows any number, so that what a
+-- reader makes of symbols needs no condition.
 use Rattle.std.specs.Prelude.{◌≡◌, ◌≤◌, ℕ, ◌==◌, ◌+◌, max, List, [], ◌∷◌, ◌++◌}
 use Rattle.std.specs.Prelude.{codes, Option, Some, None, if◌then◌else◌, replicate}
 use Rattle.std.specs.List.{flat_map}
@@ -21,22 +21,25 @@ use Rattle.cr_search_parse.specs.Terms.{term_of}
 
 -- ---- symbols
 
--- What a run is to the grammar. A chunk is the dashes that it begins with, each a negation, and the word behind them.
--- A sample is no text's: it is an item that is added to one, see Offsets.
+-- What a run of bytes is to the grammar. A chunk is the dashes that it begins with, each a negation, and the word after
+-- them. A sample is in no text: Offsets adds it to one, as an item, to say where a text goes wrong.
 pub data Symbol : Type 0 where
   gap opens closes dash sample : Symbol
   word : List ℕ → Symbol
 
+-- the symbols of a chunk: its dashes, and the word after them if there is one
 abbrev pub chunk_symbols : List ℕ → List Symbol
 chunk_symbols [] = []
 chunk_symbols (byte ∷ bytes) = if byte == 45 then dash ∷ chunk_symbols bytes else word (byte ∷ bytes) ∷ []
 
+-- the symbols of a run
 abbrev pub run_symbols : Run → List Symbol
 run_symbols (spaces n) = gap ∷ []
 run_symbols opening = opens ∷ []
 run_symbols closing = closes ∷ []
 run_symbols (chunk bytes) = chunk_symbols bytes
 
+-- the symbols of all runs, in order
 abbrev pub symbols_of : List Run → List Symbol
 symbols_of runs = flat_map run_symbols runs
 
@@ -56,15 +59,15 @@ mutual
     -- a query in parentheses, with a gap at both ends
     grouped : ℕ → Any → ℕ → Item
 
-  -- items that all hold
+  -- items that all have to hold
   pub data All : Type 0 where
     one : Item → All
     -- those before, a gap, and one item more
     beside : All → ℕ → Item → All
-    -- the same with AND, and a gap on both sides of it
+    -- those before, AND with a gap on both sides of it, and one item more
     joined : All → ℕ → ℕ → Item → All
 
-  -- alternatives
+  -- alternatives, of which one has to hold
   pub data Any : Type 0 where
     sole : All → Any
     -- those before, OR with a gap on both sides of it, and one more
@@ -72,19 +75,23 @@ mutual
 
 -- ---- how they are spelled
 
--- so many runs of spaces
+-- this many runs of spaces
 abbrev pub gap_symbols : ℕ → List Symbol
 gap_symbols n = replicate n gap
 
+-- the word between items that both have to hold, which may be left out
 abbrev pub and_word : List ℕ
 and_word = codes "AND"
 
+-- the word between alternatives
 abbrev pub or_word : List ℕ
 or_word = codes "OR"
 
+-- the word before an item that mustn't hold
 abbrev pub not_word : List ℕ
 not_word = codes "NOT"
 
+-- the symbols by which an item, items and alternatives are spelled
 abbrev mutual
   pub item_symbols : Item → List Symbol
   item_symbols (term text t is) = word text ∷ []
@@ -107,6 +114,7 @@ abbrev mutual
 
 -- ---- what they are
 
+-- the tree that an item, items and alternatives are
 abbrev mutual
   pub item_tree : Item → Tree
   item_tree (term text t is) = asks t
@@ -124,7 +132,7 @@ abbrev mutual
   any_tree (sole a) = all_tree a
   any_tree (other a before behind b) = either (any_tree a) (all_tree b)
 
--- how many dashes, NOTs and parentheses the deepest item stands inside
+-- how many dashes, NOTs and parentheses the most deeply nested item is inside of
 abbrev mutual
   pub item_depth : Item → ℕ
   item_depth (term text t is) = 0
@@ -142,7 +150,7 @@ abbrev mutual
   any_depth (sole a) = all_depth a
   any_depth (other a before behind b) = max (any_depth a) (all_depth b)
 
--- how many terms there are: an added one doesn't count
+-- how many terms there are; an added item doesn't count
 abbrev mutual
   pub item_terms : Item → ℕ
   item_terms (term text t is) = 1
@@ -162,8 +170,8 @@ abbrev mutual
 
 -- ---- queries
 
--- symbols that are a query, with its tree, which an empty one hasn't: no item stands too
--- deep, and the terms aren't too many
+-- the symbols are a query, with its tree, which an empty query doesn't have: no item is inside of more than 64 dashes,
+-- NOTs and parentheses, and there are at most 128 terms
 abbrev pub IsQuery : List Symbol → Option Tree → Type 0
 IsQuery symbols None = (spaced : ℕ) × (symbols ≡ gap_symbols spaced)
 IsQuery symbols (Some tree) =

@@ -1,5 +1,5 @@
--- What a text is read as, in words of the grammar: the states of the reader (Reading) are but a way to compute it.
--- `law_reading` says that `text_read` gives this of every text, and that nothing else is said of any.
+-- What a text is read as, by the grammar. The automaton of Reading only computes it: `law_reading` says that
+-- `text_read` gives this of every text, and that the grammar says nothing else of any.
 use Rattle.std.specs.Prelude.{◌≡◌, ℕ, List, Option, Result, Ok, Err}
 use Rattle.cr_base.specs.Search.{Tree, all_steps}
 use Rattle.cr_base.specs.declared.search.Step.{Step}

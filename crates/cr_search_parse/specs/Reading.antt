@@ -21,35 +21,39 @@ pub record Level : Type 0 where
   pub items : List Step
   pub negations : ℕ
 
--- what may come
+-- what the symbol before lets come next
 pub data Next : Type 0 where
-  -- an item, or nothing where nothing is open: nothing has come yet
+  -- an item, or the end if no parenthesis is open: nothing has come on this level yet
   first : Next
-  -- anything: an item has ended
+  -- anything: an item has just ended
   ended : Next
-  -- an item
+  -- an item, after a gap or not: AND, OR or NOT has come
   wanted : Next
-  -- an item at once: a dash came
+  -- an item, without a gap before it: a dash has come
   touching : Next
 
--- the levels around the one that is read, the innermost first
+-- The state of the automaton: the level that is being read, the levels of the open parentheses around it, the innermost
+-- first, what may come next, and how many terms were read.
 pub record State : Type 0 where
   pub around : List Level
   pub level : Level
   pub next : Next
   pub terms : ℕ
 
+-- a level in which nothing was read
 abbrev pub no_level : Level
 no_level = record { alternatives = []; items = []; negations = 0 }
 
+-- the state before the first symbol
 abbrev pub start : State
 start = record { around = []; level = no_level; next = first; terms = 0 }
 
--- how many dashes, NOTs and parentheses the next item stands inside
+-- how many dashes, NOTs and parentheses are around the current level, if these are the levels around it
 abbrev pub levels_depth : List Level → ℕ
 levels_depth [] = 0
 levels_depth (level ∷ levels) = level.negations + 1 + levels_depth levels
 
+-- how many dashes, NOTs and parentheses the next item is inside of
 abbrev pub depth : State → ℕ
 depth s = s.level.negations + levels_depth s.around
 
@@ -77,43 +81,51 @@ after_item item s = record s { level = with_item item s.level; next = ended }
 abbrev pub level_steps : Level → List Step
 level_steps level = with_operand step.Or level.alternatives level.items
 
--- a state that isn't too deep
+-- the state, if the next item is inside of at most 64 dashes, NOTs and parentheses
 abbrev pub if_shallow : State → Option State
 if_shallow s = if nat_lt 64 (depth s) then None else Some s
 
+-- the state after a dash or a NOT, after which this may come
 abbrev pub one_negation_more : Next → State → State
 one_negation_more next s = record s { level = record s.level { negations = s.level.negations + 1 }; next = next }
 
 -- ---- one symbol
 
+-- the state after spaces; none after a dash
 abbrev pub after_gap : State → Next → Option State
 after_gap s touching = None
 after_gap s _ = Some s
 
+-- the state after an opening parenthesis: a new level begins
 abbrev pub after_open : State → State
 after_open s = record s { around = s.level ∷ s.around; level = no_level; next = first }
 
 abbrev pub closed : List Step → Level → List Level → State → State
 closed item level around s = after_item item (record s { around = around; level = level })
 
+-- the state after a closing parenthesis; none if no item has ended before it, or no parenthesis is open
 abbrev pub after_close : State → Next → List Level → Option State
 after_close s ended (level ∷ around) = Some (closed (level_steps s.level) level around s)
 after_close s _ around = None
 
+-- the state after OR: the current alternative ends; none if no item has ended before it
 abbrev pub after_or : State → Next → Option State
 after_or s ended =
     Some (record s { level = record { alternatives = level_steps s.level; items = []; negations = 0 }; next = wanted })
 after_or s _ = None
 
+-- the state after AND; none if no item has ended before it
 abbrev pub after_and : State → Next → Option State
 after_and s ended = Some (record s { next = wanted })
 after_and s _ = None
 
+-- the state after a word that is this term; none if it is no term, or 128 terms came before it
 abbrev pub after_term : State → Option Term → Option State
 after_term s None = None
 after_term s (Some t) =
     if nat_lt 127 s.terms then None else Some (after_item (step.Term t ∷ []) (record s { terms = s.terms + 1 }))
 
+-- the state after a word: AND, OR, NOT or a term; none if it can't come there
 abbrev pub after_word : State → List ℕ → Option State
 after_word s text =
     if is_and text then after_and s s.next
@@ -121,6 +133,7 @@ after_word s text =
     else (if is_not text then if_shallow (one_negation_more wanted s)
     else after_term s (term_of text)))
 
+-- the state after a symbol; none if it can't come there
 abbrev pub after_symbol : State → Symbol → Option State
 after_symbol s gap = after_gap s s.next
 after_symbol s opens = if_shallow (after_open s)
@@ -131,6 +144,7 @@ after_symbol s (word text) = after_word s text
 
 -- ---- symbols, and the end
 
+-- the state after these symbols; none if one of them can't come there
 abbrev pub after_symbols : State → List Symbol → Option State
 after_symbols s [] = Some s
 after_symbols s (symbol ∷ symbols) =

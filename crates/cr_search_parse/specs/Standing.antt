@@ -1,4 +1,4 @@
--- How the code's reader stands for a state of reading.
+-- Which state of the automaton the code's reader has.
 use Rattle.std.specs.declared.alloc.Global.{Global}
 use Rattle.std.specs.Prelude.{◌≡◌, ◌≤◌, ℕ, ◌+◌, List, [], ◌∷◌, ◌++◌, length, replicate}
 use Rattle.std.specs.Prelude.{Option, Some, None, Result, Ok, Err, Vec, if◌then◌else◌, ◌==◌}
@@ -12,6 +12,7 @@ use Rattle.cr_search_parse.specs.declared.reader.Reader.{Reader}
 use Rattle.cr_search_parse.specs.declared.reader.Stop.{Stop}
 use Rattle.cr_search_parse.specs.declared.reader.Stop.TheVariants as stop
 
+-- what may come next, as the code tells it
 abbrev pub next_told : Told → Next
 next_told told.First = first
 next_told told.Ended = ended
@@ -23,7 +24,7 @@ abbrev pub counted : Level → Counts
 counted level =
     record { alternatives = length level.alternatives; items = length level.items; negations = level.negations }
 
--- the same of more levels, the outermost first
+-- the counts of each level, the outermost first
 abbrev pub all_counted : List Level → List Counts
 all_counted [] = []
 all_counted (level ∷ levels) = all_counted levels ++ (counted level ∷ [])
@@ -32,6 +33,7 @@ abbrev pub steps_of_levels : List Level → List Step
 steps_of_levels [] = []
 steps_of_levels (level ∷ levels) = steps_of_levels levels ++ (level.alternatives ++ level.items)
 
+-- the reader has this state: its nodes, its counts, what may come next and its terms are the state's
 pub record Stands (r : Reader) (s : State) : Type 0 where
   pub steps : r.steps.items ≡ steps_of_levels (s.level ∷ s.around)
   pub around : r.around.items ≡ all_counted s.around
@@ -41,6 +43,7 @@ pub record Stands (r : Reader) (s : State) : Type 0 where
   pub terms : r.terms ≡ s.terms
   pub shallow : depth s ≤ 64
 
+-- the reader has some state
 abbrev pub StandsForOne : Reader → Type 0
 StandsForOne r = (s : State) × Stands r s
 
@@ -48,12 +51,12 @@ StandsForOne r = (s : State) × Stands r s
 abbrev pub weight : Reader → ℕ
 weight r = length r.steps.items + (r.outside + r.level.negations)
 
--- why a reader stopped: no state comes after, or memory ran out
+-- why a reader stopped: no state comes next, or memory ran out
 abbrev pub Refuses : Stop → Option State → Type 0
 Refuses stop.Misplaced after = after ≡ None
 Refuses stop.OutOfMemory after = Unit {0}
 
--- A reader read what leads to this state, and then stands for it.
+-- the reader took what leads to this state, and has it; or it stopped as `Refuses` says
 abbrev pub Takes : {A : Type 0} → Result A Stop → Reader → Option State → Type 0
 Takes (Ok done) r after = (s : State) × (after ≡ Some s) × Stands r s
 Takes (Err why) r after = Refuses why after

@@ -24,13 +24,14 @@ pub record StopsBefore (runs : List Run) (offset : ℕ) : Type 0 where
   pub stuck : after_symbols start (symbols_of (take (before + 1) runs)) ≡ None
   pub read : runs_read runs 0 start ≡ Err offset
 
--- it stops at the end: there the state may not end
+-- reading stops at the end: the text may not end in the state to which these runs lead
 pub record StopsShort (runs : List Run) (offset : ℕ) : Type 0 where
   pub there : offset ≡ runs_length runs
   pub state : State
   pub leads : LeadTo runs state
   pub short : steps_read state ≡ None
 
+-- reading stops at this offset
 abbrev pub StopsAt : List Run → ℕ → Type 0
 StopsAt runs offset = StopsBefore runs offset ⊎ StopsShort runs offset
 
@@ -38,6 +39,7 @@ StopsAt runs offset = StopsBefore runs offset ⊎ StopsShort runs offset
 abbrev pub Gives : List Run → List Step → Type 0
 Gives runs steps = (s : State) × LeadTo runs s × (steps_read s ≡ Some steps)
 
+-- the error for a reader that stopped at this offset
 abbrev pub stopped_at : Stop → ℕ → ParseError
 stopped_at stop.Misplaced offset = told.BadQuery offset
 stopped_at stop.OutOfMemory offset = told.OutOfMemory

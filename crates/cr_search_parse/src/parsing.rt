@@ -75,7 +75,7 @@ pub fn parse(alloc: Global, text: &[u8]) -> Result<Search, ParseError>
     ensures found { IfOk result (λ search. Spells text.now (tree_of search)) }
     ensures only { (tree : Option Tree) → Spells text.now tree → IsFound result (all_steps tree) }
     ensures bad { (offset : ℕ) → result ≡ Err (BadQuery offset) → IsBad text.now offset }
-    // The same as a function of the text.
+    // What the text comes to, as a function of it.
     ensures exact { Parses result (text_read text.now) }
 {
     if text.len() > MOST_BYTES {

@@ -11,6 +11,7 @@ pub record ClockState : Type 0 where
   pub coming : Option (List ℕ)
   pub faults : ℕ
 
+-- what contracts see of a clock: the timestamps to come and the fault counter, by the members of its trait
 abbrev pub clock_of : {C : Type 0} → (C → Option (List ℕ)) → (C → ℕ) → C → ClockState
 clock_of coming faults clock = record { coming = coming clock; faults = faults clock }
 
@@ -37,13 +38,16 @@ pub record Desk : Type 0 where
   pub sink : Outlet
   pub clock : ClockState
 
+-- what contracts see of a sink and a clock, by the members of their traits
 abbrev pub desk_of : {O C : Type 0} → (O → Option Taken) → (O → ℕ) → (C → Option (List ℕ)) → (C → ℕ) → O → C → Desk
 desk_of taken write_faults coming clock_faults sink clock =
     record { sink = outlet_of taken write_faults sink; clock = clock_of coming clock_faults clock }
 
+-- the bytes of each answer
 abbrev pub texts_of : List Answer → List (List ℕ)
 texts_of answers = map (λ (a : Answer). a.text) answers
 
+-- the timestamp of each answer
 abbrev pub times_of : List Answer → List ℕ
 times_of answers = map (λ (a : Answer). a.at) answers
 
@@ -53,7 +57,8 @@ pub record GivesAnswers (answers : List Answer) (d d' : Desk) : Type 0 where
   pub timed : GivesMoments (times_of answers) d.clock d'.clock
   pub written : WritesAnswers (texts_of answers) d.sink d'.sink
 
--- The answers before were given; then this one had its moment, was begun, and behind a part of it the write failed.
+-- The answers before were given; then the clock gave this one's timestamp, it was begun, and after a part of it the
+-- write failed.
 pub record AnswerFails (before : List Answer) (answer : Answer) (d d' : Desk) : Type 0 where
   pub timed : GivesMoments (times_of (before ++ answer ∷ [])) d.clock d'.clock
   pub broken : AnswerBreaksOff (texts_of before) answer.text d.sink d'.sink

@@ -15,9 +15,9 @@ use Rattle.cr_session.specs.Tries.{Tries, Nothing, TriesWish}
 abbrev pub KnownPass : Type 0 → Type 0
 KnownPass K = Known (SeenBook K) Stamped
 
--- A wish was judged in one turn of the pass. The turn's group is what the wish adds to the history at the turn's
--- place, and nothing where that was lost. It is marked where something was lost, and elsewhere only where the keeper's
--- count of faults stands at its last value. The book is the one that the pass left, where it has the whole share.
+-- A wish was judged in one turn of the pass. The turn's group is what the wish adds to the history at the turn's place,
+-- and nothing if that was lost. The turn is marked if something was lost, else only if the keeper's fault counter is at
+-- its last value. The book is the one that the pass left, if it has the whole share.
 pub record TakesTurn {K : Type 0} (tries : Tries K) (j : JudgedWish) (p p' : KnownPass K) : Type 0 where
   -- the history at the turn's place holds all that the pass had seen
   pub saw : IsPrefix p.seen j.seen
@@ -69,7 +69,7 @@ IsTurnOf tries judged t = JudgesOneOf tries judged t ⊎ AddsNothing tries t
 
 -- ---- the pass itself
 
--- it is of the same lock and has the same share, and took so many turns at most
+-- the pass is of the same lock, has the same share, and took at most this many turns
 pub record StaysPass {K : Type 0} (most : ℕ) (p p' : KnownPass K) : Type 0 where
   pub lock : p'.lock ≡ p.lock
   pub share : p'.share ≡ p.share

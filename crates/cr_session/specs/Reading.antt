@@ -17,28 +17,28 @@ use Rattle.cr_session.specs.declared.reading.WishRead.TheVariants as reads
 use Rattle.cr_session.specs.Answering.{ClockState, GivesMoments, FailsBehind}
 use Rattle.cr_session.specs.Turning.{IsBoundedWish}
 
--- the request whose wish this is, at the wish's moment, stands at the front of the text, and this rest follows it
+-- at the front of the text is the request of this wish, at the wish's timestamp, and this rest follows it
 pub record StandsWish (text : List ℕ) (w : Wish) (rest : List ℕ) : Type 0 where
   pub request : RequestText
   pub stands : StandsAt text (whole request.head request.body rest)
   pub wish : w ≡ wish_text request w.at
 
--- neither a whole request nor a refusal stands at the front of the text
+-- neither a whole request nor what is refused as one is at the front of the text
 abbrev pub IsUnfinished : List ℕ → Type 0
 IsUnfinished text = StandsAt text clean ⊎ StandsAt text cut
 
--- memory may run out for the body, the search or the plan of the request at the front, whose moment this is
+-- memory may run out for the body, the search or the plan of the request at the front, which has this timestamp
 abbrev pub MayWantToLook : ℕ → List ℕ → Type 0
 MayWantToLook at text =
     (w : Wish) × (rest : List ℕ) × StandsWish text w rest × LooksBehindPath w.what × (w.at ≡ at)
 
--- memory may run out in reading on: for more bytes, where no moment was read for the request that comes; or for the
--- body, the search or the plan of the one at the front
+-- memory may run out in reading: if no timestamp was read for the next request, for more bytes; else for the body, the
+-- search or the plan of the request at the front
 abbrev pub MayWantToRead : Option ℕ → List ℕ → Type 0
 MayWantToRead None text = IsUnfinished text
 MayWantToRead (Some at) text = MayWantToLook at text
 
--- what the answer says of the text that came so far, and what of it is kept
+-- what the answer says of the text that came so far, and of what is kept of it
 abbrev pub Says : WishRead → List ℕ → List ℕ → Type 0
 Says (reads.Wish w) text kept = StandsWish text w kept
 Says (reads.Malformed why head at) text kept = StandsAt text (refused why head)
@@ -48,7 +48,7 @@ Says reads.ReadFault text kept = IsUnfinished text
 Says reads.ClockFault text kept = IsSettled text
 Says (reads.OutOfMemory head at) text kept = IsToHead text head × MayWantToRead at text
 
--- the answer is one for a stream that has ended
+-- an answer that says that the stream has ended is given only at its end
 abbrev pub AtEndIfEnded : WishRead → Option (List ℕ) → Type 0
 AtEndIfEnded (reads.Wish w) left = Unit {0}
 AtEndIfEnded (reads.Malformed why head at) left = Unit {0}
@@ -58,7 +58,7 @@ AtEndIfEnded reads.ReadFault left = Unit {0}
 AtEndIfEnded reads.ClockFault left = Unit {0}
 AtEndIfEnded (reads.OutOfMemory head at) left = Unit {0}
 
--- a command that is wished is within the bounds on commands, and its moment is one
+-- a command that is wished is within the bounds on commands, and so is its timestamp
 abbrev pub IsBoundedRead : WishRead → Type 0
 IsBoundedRead (reads.Wish w) = IsBoundedWish w
 IsBoundedRead (reads.Malformed why head at) = Unit {0}
@@ -68,8 +68,8 @@ IsBoundedRead reads.ReadFault = Unit {0}
 IsBoundedRead reads.ClockFault = Unit {0}
 IsBoundedRead (reads.OutOfMemory head at) = Unit {0}
 
--- the wish of the request at hand at this moment, or memory ran out where its body or its search was looked at, told to
--- HEAD exactly where the request is one to HEAD
+-- the answer is the wish of the request at hand at this timestamp, or says that memory ran out where its body or its
+-- search was read, to HEAD exactly if the request is one to HEAD
 abbrev pub IsWishedAt : WishRead → ℕ → Option RequestText → Type 0
 IsWishedAt (reads.Wish w) at request = IfSome request (λ r. w ≡ wish_text r at)
 IsWishedAt (reads.OutOfMemory head None) at request = ⊥
@@ -81,12 +81,14 @@ IsWishedAt reads.Cut at request = ⊥
 IsWishedAt reads.ReadFault at request = ⊥
 IsWishedAt reads.ClockFault at request = ⊥
 
--- the same at some moment, or the clock failed; that it is the clock's, `ReadsClock` says
+-- the answer is the wish of the request at hand at some timestamp (`IsWishedAt`), or says that the clock failed; that
+-- the timestamp is the clock's, `ReadsClock` says
 abbrev pub IsWishedNow : WishRead → Option RequestText → Type 0
 IsWishedNow reads.ClockFault request = Unit {0}
 IsWishedNow answer request = (at : ℕ) × IsWishedAt answer at request
 
--- this refusal, at whatever moment, or the clock failed; that it is the clock's, `ReadsClock` says
+-- the answer is this refusal at some timestamp, or says that the clock failed; that the timestamp is the clock's,
+-- `ReadsClock` says
 abbrev pub IsRefusedNow : WishRead → Refusal → Bool → Type 0
 IsRefusedNow (reads.Malformed said to_head at) why head = (said ≡ why) × (to_head ≡ head)
 IsRefusedNow reads.ClockFault why head = Unit {0}
@@ -96,8 +98,8 @@ IsRefusedNow reads.Cut why head = ⊥
 IsRefusedNow reads.ReadFault why head = ⊥
 IsRefusedNow (reads.OutOfMemory to_head at) why head = ⊥
 
--- The source gave these bytes; behind those of the inbox they are a text at whose front the answer stands. No read was
--- made once that was settled.
+-- The source gave these bytes; after those of the inbox they are a text, and the answer is what is at its front. No
+-- read was made once that was settled.
 pub record ReadsWish {S : Type 0} (left : S → Option (List ℕ)) (gives : S → S → List ℕ → Type 0)
     (source source' : S) (inbox inbox' : List ℕ) (answer : WishRead) : Type 0 where
   pub got : List ℕ
@@ -106,8 +108,8 @@ pub record ReadsWish {S : Type 0} (left : S → Option (List ℕ)) (gives : S �
   pub ended : AtEndIfEnded answer (left source')
   pub needed : ReadsWhile left gives IsUnsettled source source' inbox (inbox ++ got)
 
--- the moments that the clock gave for what was read: one for a wish and for a refusal, and one for a request for whose
--- body or search memory ran out
+-- the timestamps that the clock gave for what was read: one for a wish, a refusal, and a request for whose body or
+-- search memory ran out
 abbrev pub moments_read : WishRead → List ℕ
 moments_read (reads.Wish w) = w.at ∷ []
 moments_read (reads.Malformed why head at) = at ∷ []

@@ -35,8 +35,7 @@ history_after j = if j.lost then j.seen else after_wish j.seen j.wish
 unfoldable pub answer_to : ℕ → JudgedWish → List ℕ
 answer_to n j = if j.lost then unkept j.wish (closes n j.wish) else told j.seen j.wish (closes n j.wish)
 
--- the keeper's count of faults over a turn: it rose, its last value aside, where something
--- was lost, and stands elsewhere
+-- the keeper's fault counter over a turn: it rose, or is at its last value, if something was lost; else it stays
 abbrev pub CountsLoss : Bool → ℕ → ℕ → Type 0
 CountsLoss true faults faults' = (faults ≤ faults') × Rises faults faults'
 CountsLoss false faults faults' = faults' ≡ faults

@@ -67,12 +67,12 @@ NotesNoMemory None head d d' =
     ((at : ℕ) × GivesMoments (at ∷ []) d.clock d'.clock × WritesNote head at d.sink d'.sink)
     ⊎ (FailsBehind [] d.clock d'.clock × (d'.sink ≡ d.sink))
 
--- the note was given behind the answers, or its write broke off
+-- the note was given after the answers, or its write broke off
 abbrev pub GivesNote : List Answer → Bool → ℕ → Desk → Desk → Type 0
 GivesNote before head at d d' =
     GivesAnswers (before ++ note_at head at ∷ []) d d' ⊎ AnswerFails before (note_at head at) d d'
 
--- the note behind the answers, by the moment that the clock had given for the request, if any
+-- the note after the answers, with the timestamp that the clock had given for the request, if any
 abbrev pub TellsWantOfMemory : List Answer → Option ℕ → Bool → Desk → Desk → Type 0
 TellsWantOfMemory before (Some at) head d d' = GivesNote before head at d d'
 TellsWantOfMemory before None head d d' = ((at : ℕ) × GivesNote before head at d d') ⊎ ClockFails before d d'
@@ -89,7 +89,7 @@ EndsSource endings.WriteFault left = Unit {0}
 EndsSource endings.ClockFault left = Unit {0}
 EndsSource endings.OutOfMemory left = Unit {0}
 
--- the source's count of faults: it rose, its last value aside, where a read failed, and stands elsewhere
+-- the source's fault counter: it rose, or is at its last value, if a read failed; else it stays
 abbrev pub CountsReads : Ending → ℕ → ℕ → Type 0
 CountsReads endings.Clean faults faults' = faults' ≡ faults
 CountsReads endings.Cut faults faults' = faults' ≡ faults
@@ -99,7 +99,7 @@ CountsReads endings.WriteFault faults faults' = faults' ≡ faults
 CountsReads endings.ClockFault faults faults' = faults' ≡ faults
 CountsReads endings.OutOfMemory faults faults' = faults' ≡ faults
 
--- what the turns behind the wishes that were judged left: there are none, unless memory ran out
+-- what the turns after those of the judged wishes left: there are none, unless memory ran out
 abbrev pub EndsTurns : {B : Type 0} → Ending → B → B → Type 0
 EndsTurns endings.Clean b b' = b' ≡ b
 EndsTurns endings.Cut b b' = b' ≡ b
@@ -123,8 +123,8 @@ WritesRefusal endings.OutOfMemory why head at s s' = ⊥
 
 -- ---- nothing is read ahead
 
--- the text, from request number n on, has some of these wishes whole, or none, none of them closes, and what stands
--- behind them can't be told without more bytes, or the end
+-- the text, from request number n on, begins with some of these wishes, or none, after none of them the connection
+-- closes, and what follows them can't be told without more bytes, or the end
 pub record WantsBehind (n : ℕ) (wishes : List Wish) (text : List ℕ) : Type 0 where
   pub first : List Wish
   pub others : List Wish
@@ -133,8 +133,8 @@ pub record WantsBehind (n : ℕ) (wishes : List Wish) (text : List ℕ) : Type 0
   pub reaches : Reaches n text first rest
   pub unsettled : IsUnsettled rest
 
--- Each read was made at a text that wants more behind wishes that were answered: so what stands behind them, a wish
--- whose answer failed and a refusal among it, wasn't settled when the last byte was asked for.
+-- Each read was made at a text that wants more after wishes that were answered: what follows them, be it a wish whose
+-- answer failed or a refusal, wasn't settled when the last byte was asked for.
 abbrev pub ReadsNoFurther : {S : Type 0} → (S → Option (List ℕ)) → (S → S → List ℕ → Type 0) → ℕ → List JudgedWish → S
     → S → List ℕ → List ℕ → Type 0
 ReadsNoFurther left gives n answered source source' old new =
@@ -148,8 +148,8 @@ abbrev pub LacksInTurn : {B : Type 0} → (Wish → B → B → Type 0) → Opti
 LacksInTurn Lacks at b b' rest =
     (w : Wish) × (after : List ℕ) × StandsWish rest w after × (at ≡ Some w.at) × Lacks w b b'
 
--- memory ran out behind the answers so far, where this moment was read for the request that comes next, or none: in
--- reading it, or in its turn
+-- memory ran out after the answers so far, in reading the next request or in its turn; this timestamp was read for it,
+-- or none
 abbrev pub MayLackMemory : {B : Type 0} → (Wish → B → B → Type 0) → Option ℕ → B → B → List ℕ → Type 0
 MayLackMemory Lacks at b b' rest = (MayWantToRead at rest × (b' ≡ b)) ⊎ LacksInTurn Lacks at b b' rest
 
@@ -295,14 +295,17 @@ module _ {K S : Type 0} (tries : Tries K) (left : S → Option (List ℕ)) where
 
 -- ---- turns on a ledger, one from where the other left it
 
--- memory ran out, and the ledger stays
+-- memory ran out in the turn of a wish, and the ledger stays
 abbrev pub StaysInVain : Wish → Ledger → Ledger → Type 0
 StaysInVain w b b' = (b' ≡ b) × MayWantMemory b.history w
 
+-- ConnectionBytes: what one connection did, if its turns are all the turns that there are, on a ledger
 abbrev pub ConnectionBytes : {S : Type 0} → (S → Option (List ℕ)) → (S → S → List ℕ → Type 0) → Ending → ℕ → List ℕ
     → World Ledger S → World Ledger S → Type 0
 ConnectionBytes left gives ending n inbox w w' = Connection Replays StaysInVain left gives ending n inbox w w'
 
+-- what one connection did of the whole text that its source had left, if its turns are all the turns that there are, on
+-- a ledger
 abbrev pub WholeBytes : {S : Type 0} → (S → Option (List ℕ)) → Ending → List ℕ → World Ledger S
     → World Ledger S → Type 0
 WholeBytes left ending b w w' = WholeText Replays StaysInVain left ending b w w'

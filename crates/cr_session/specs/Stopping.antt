@@ -9,7 +9,7 @@ use Rattle.cr_book.specs.Stopping.{Keepers}
 use Rattle.cr_session.specs.Replay.{JudgedWish, history_after}
 use Rattle.cr_session.specs.Told.{drawn}
 
--- the history behind these wishes, of which the first was judged on this one
+-- the history after these wishes, of which the first was judged on this one
 abbrev pub history_behind : History → List JudgedWish → History
 history_behind H [] = H
 history_behind H (j ∷ js) = history_behind (history_after j) js
@@ -36,7 +36,7 @@ pub record OpensBehind (opens : List ℕ → List Row → Type 0) (opening : His
       × opens image (rows_of (history_behind opening first ++ group)))
 
 -- What a stop at some moment since these wishes came, on this history, may have left; and the groups of which one may
--- be found behind the rows of the last history: those of wishes that were lost on it.
+-- be found after the rows of the last history: those of wishes that were lost on it.
 pub record KeepsWishes {K : Type 0} (keepers : Keepers K) (old new : K) (opening last : History)
     (judged : List JudgedWish) : Type 0 where
   pub since : (image : List ℕ) → keepers.left_since new (keepers.moment old) image

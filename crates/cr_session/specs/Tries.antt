@@ -19,9 +19,11 @@ fate_of lost None = Nothing
 fate_of true (Some d) = Lost d
 fate_of false (Some d) = Kept d
 
+-- the fate of what a wish draws if the keeper kept it
 abbrev pub kept_of : Option Drawn → Fate
 kept_of d = fate_of false d
 
+-- the fate of what a wish draws if it was lost
 abbrev pub lost_of : Option Drawn → Fate
 lost_of d = fate_of true d
 
@@ -30,9 +32,8 @@ lost_of d = fate_of true d
 abbrev pub Tries : Type 0 → Type 1
 Tries K = History → Fate → K → K → Type 0
 
--- Where the keeper tells what a stop of the machine may leave: it is as it was where nothing is drawn. Else a stop
--- while the group was being put behind the history leaves its rows, or these and then whole this group or one that had
--- been tried.
+-- If the keeper tells what a stop of the machine may leave: it is as it was if nothing is drawn. Else a stop while the
+-- group was being added leaves the rows of the history, or these and then whole this group or one that had been tried.
 abbrev pub tries_of : {K : Type 0} → Keepers K → Tries K
 tries_of keepers H Nothing old new = IsTrue (keepers.tells_stops old) → new ≡ old
 tries_of keepers H (Kept d) old new =

@@ -41,12 +41,12 @@ use Rattle.cr_wire.specs.Wishes.{closes}
 
 -- ---- one turn
 
--- a wish's command and its key are within their bounds, and its moment is one
+-- a wish's command and its number are within their bounds, and so is its timestamp
 pub record IsBoundedWish (w : Wish) : Type 0 where
   pub what : IsBoundedWhat w.what
   pub moment : IsMoment w.at
 
--- the answer's bytes by what the turn came to
+-- the bytes of the answer, by what the turn came to
 abbrev pub turn_text : TurnResult → Sending → List ℕ
 turn_text (turns.Refused refused) sending = refusal_text refused sending
 turn_text (turns.Accepted receipt) sending = receipt_text receipt sending
@@ -54,23 +54,23 @@ turn_text (turns.Answered reply) sending = reply_text reply sending
 turn_text turns.Lost sending = refusal_text refused.KeeperFault sending
 turn_text turns.OutOfMemory sending = []
 
--- what is printed of it: of an answer all but what is written as it is kept
+-- what is printed of the answer: all but what is written as it is kept
 abbrev pub turn_front : TurnResult → Sending → List ℕ
 turn_front (turns.Answered reply) sending = front_text sending reply
 turn_front turn sending = turn_text turn sending
 
--- what is written behind that, as it is kept
+-- what is written after that, as it is kept
 abbrev pub turn_block : TurnResult → Sending → List ℕ
 turn_block (turns.Answered reply) sending = block_text sending reply
 turn_block turn sending = []
 
--- Answer doesn't refuse the query, or refuses it since there is no plan, which memory finds
+-- Answer doesn't refuse the query, or refuses it since there is no plan, which takes memory to find
 abbrev pub IsUnrefused : Option ℕ → View → Query → Type 0
 IsUnrefused u V query = MayTakeMemory (answer u V query)
 
--- memory may run out in the turn of what a caller wishes on her view at this moment: for a command or a bulk that is
--- judged and accepted, so not for one that repeats another, and for a query that Answer doesn't refuse, or that asks
--- for a plan where there is none
+-- memory may run out for what a caller wishes on the caller's view at this timestamp: a command or a bulk that is
+-- judged and accepted, not one that repeats another; or a query that Answer doesn't refuse, or that asks for a plan if
+-- there is none
 abbrev pub WantsRoom : Option ℕ → View → ℕ → What → Type 0
 WantsRoom u V at whats.NoRoute = ⊥
 WantsRoom u V at (whats.WrongMethod resource) = ⊥
@@ -81,20 +81,22 @@ WantsRoom u V at (whats.Command key command) = IsSome (drawn_by (decide V (call_
 WantsRoom u V at (whats.Bulk key rows) = IsSome (drawn_by (decide_bulk V (bulk_by (maker_of u) at key rows)))
 WantsRoom u V at (whats.Query query) = IsUnrefused u V query
 
--- and only for a caller who may
+-- memory may run out in the turn of what a caller wishes (`WantsRoom`): only if the caller may ask it
 abbrev pub MayWantFor : Option ℕ → View → ℕ → What → Type 0
 MayWantFor u V at what = (is_unauthorized u V what ≡ false) × WantsRoom u V at what
 
+-- memory may run out in the turn of the wish on this history
 abbrev pub MayWantMemory : History → Wish → Type 0
 MayWantMemory H w = MayWantFor (caller H w) (view (caller H w) H) w.at w.what
 
--- a wish was judged or answered: its answer is Told's, the history is stepped on, and the keeper's count stands
+-- a wish was judged or answered: its answer is Told's, the history is the one after the wish, and the keeper's fault
+-- counter stays
 pub record AnswersWish (turn : TurnResult) (w : Wish) (b b' : Ledger) : Type 0 where
   pub told_is : (close : Bool) → turn_text turn (sending_of w close) ≡ told b.history w close
   pub stepped : b'.history ≡ after_wish b.history w
   pub steady : b'.faults ≡ b.faults
 
--- what one turn did to the history, and to the keeper's count of faults
+-- what one turn did to the history, and to the keeper's fault counter
 abbrev pub Turns : TurnResult → Wish → Ledger → Ledger → Type 0
 Turns (turns.Refused refused) w b b' = AnswersWish (turns.Refused refused) w b b'
 Turns (turns.Accepted receipt) w b b' = AnswersWish (turns.Accepted receipt) w b b'
@@ -117,15 +119,15 @@ abbrev pub refused_for : Broken → Refused
 refused_for (broken.Rule rule) = refused.Rule rule
 refused_for (broken.Row row rule) = refused.Row row rule
 
--- it was refused, as the look-up of its number says or Judge, and nothing changed
+-- a command or a bulk was refused, as the look-up of its number or Judge says, and nothing changed
 pub record RefusesChange (r : Refused) (outcome : Outcome Broken) (b b' : Ledger) : Type 0 where
   pub refusal : Broken
   pub outcome_is : outcome ≡ Judged (Err refusal)
   pub refused_is : r ≡ refused_for refusal
   pub same : b' ≡ b
 
--- a command or a bulk that comes to this was judged, or looked up where it repeats another: one that adds nothing is
--- never lost, and wants no memory
+-- what the turn of a command or a bulk did that comes to this outcome: it was judged, or looked up if it repeats
+-- another. If it adds nothing, it is never lost and memory never runs out.
 abbrev pub JudgesChange : TurnResult → Outcome Broken → Ledger → Ledger → Type 0
 JudgesChange (turns.Refused r) outcome b b' = RefusesChange r outcome b b'
 JudgesChange (turns.Accepted receipt) outcome b b' =
@@ -135,16 +137,16 @@ JudgesChange turns.Lost outcome b b' =
     IsSome (drawn_by outcome) × (b'.history ≡ b.history) × CountsLoss true b.faults b'.faults
 JudgesChange turns.OutOfMemory outcome b b' = (b' ≡ b) × IsSome (drawn_by outcome)
 
--- the same of a book, by what its ledger was and is
+-- what the turn of a command or a bulk did to a book: `JudgesChange` holds of its ledgers before and after
 abbrev pub ChangesBook : {K : Type 0} → (K → ℕ) → TurnResult → Outcome Broken → SeenBook K → SeenBook K → Type 0
 ChangesBook faults turn outcome old new = JudgesChange turn outcome (ledger_of faults old) (ledger_of faults new)
 
--- a bulk's caller is a registered user, who may give it
+-- the caller of a bulk is a registered user, who may give it
 abbrev pub IsBulkCaller : History → Option ℕ → ℕ → Option RetryKey → List BulkRow → Type 0
 IsBulkCaller H None at key rows = ⊥
 IsBulkCaller H (Some user) at key rows = IsBulkGiven H (bulk_by user at key rows)
 
--- a query was answered for this caller
+-- a query of this caller's was answered
 abbrev pub AnswersQuery : TurnResult → Option ℕ → Query → History → Type 0
 AnswersQuery (turns.Refused refused) u query H = ⊥
 AnswersQuery (turns.Accepted receipt) u query H = ⊥
@@ -152,7 +154,7 @@ AnswersQuery (turns.Answered reply) u query H = reply ≡ answer u (view u H) qu
 AnswersQuery turns.Lost u query H = ⊥
 AnswersQuery turns.OutOfMemory u query H = IsUnrefused u (view u H) query
 
--- writing what a turn came to may run out of memory only for a query's answer that is no brief one
+-- memory may run out in writing what a turn came to: only for the answer to a query that isn't a brief one
 abbrev pub MayWantToPrint : TurnResult → Type 0
 MayWantToPrint (turns.Refused refused) = ⊥
 MayWantToPrint (turns.Accepted receipt) = ⊥
@@ -162,7 +164,7 @@ MayWantToPrint turns.OutOfMemory = ⊥
 
 -- ---- one request
 
--- what sending an answer did to the sink: it was begun once, before its first byte, also where its write broke off
+-- what sending an answer did to the sink: the answer was begun once, before its first byte, also if its write broke off
 abbrev pub Sends : RequestOutcome → Bool → List ℕ → Outlet → Outlet → Type 0
 Sends served.Goes close reply s s' = (close ≡ false) × WritesAnswers (reply ∷ []) s s'
 Sends served.Closes close reply s s' = (close ≡ true) × WritesAnswers (reply ∷ []) s s'
@@ -175,7 +177,7 @@ pub record JudgesInTurn {K : Type 0} (tries : Tries K) (w : Wish) (p p' : KnownP
   pub wish : judged.wish ≡ w
   pub turned : TakesTurn tries judged p p'
 
--- memory ran out in the turn of a wish, at this history: nothing was added or tried, and no count rose
+-- memory ran out in the turn of a wish, at this history: nothing was added or tried, and no counter rose
 pub record TurnsInVain {K : Type 0} (tries : Tries K) (w : Wish) (p p' : KnownPass K) : Type 0 where
   pub seen : History
   pub saw : IsPrefix p.seen seen
@@ -191,8 +193,8 @@ pub record TurnsInVain {K : Type 0} (tries : Tries K) (w : Wish) (p p' : KnownPa
   pub tried : tries seen Nothing found.keeper leaves.keeper
   pub turn : p' ≡ after_turn p found leaves seen seen faults faults
 
--- what one request did, as number n: it was judged once and answered once, or its answer's write failed, or memory was
--- wanting where it may be, and then nothing was added, begun or written
+-- what one request did, as number n: it was judged once and answered once, or the write of its answer failed, or memory
+-- ran out where it may, and then nothing was added, begun or written
 abbrev pub ServesRequest : {K : Type 0} → Tries K → RequestOutcome → ℕ → Wish → KnownPass K → KnownPass K → Outlet
     → Outlet → Type 0
 ServesRequest tries served.Goes n w p p' s s' =

@@ -306,7 +306,7 @@ pub fn serve_connection<R: Wait, K: Keeper, S: Source, O: Sink, C: Clock>(
         ConnectionInHistory tries S.left S.read_gives result 0 [] (world pass.old source.old sink.old clock.old)
         (world pass.new source.new sink.new clock.new) }
 
-    // The same of the whole text that the source had left.
+    // What came of the whole text that the source had left.
     ensures whole { let world = world_of S.faults O.taken O.faults C.coming C.faults in
         let tries = tries_of K.Keeper in
         (b : List ℕ) → S.left source.old ≡ Some b

@@ -67,7 +67,7 @@ pub(crate) fn in_turn<R: Wait, K: Keeper>(
 /// Judges or answers a wish. Takes no memory on a refusal, nor for a command or a bulk that repeats one of its
 /// caller's: `TurnResult::OutOfMemory` comes only for a command or a bulk that is judged and accepted and for a query
 /// that isn't refused, or refused since there is no plan, and then nothing changed. Who calls is asked first, by one
-/// look-up by name; whoever can't be told from nobody is refused alike where a login is wanted.
+/// look-up by name; all unauthenticated callers are refused alike if authentication is required.
 pub(crate) fn take_turn<K: Keeper>(book: &mut Book<K>, wish: Wish) -> TurnResult
     requires { IsBoundedWish wish }
     ensures turns { Turns result wish (ledger_of K.faults book.old) (ledger_of K.faults book.new) }

@@ -1,11 +1,11 @@
--- What the rows of the trigger table for a form ask: where the form stands, and how the reader stands to the paper.
+-- What the rows of the trigger table for a form ask: the form's position, and the reader's standing at the paper.
 use Rattle.std.specs.Prelude.{Bool, ◌&&◌, ◌||◌}
 use Rattle.cr_base.specs.declared.standing.Standing.{Standing}
 use Rattle.cr_base.specs.Page.{is_clear_chair, is_clear_member}
 use Rattle.cr_base.specs.Phases.{members_read_reviews, authors_read_reviews, authors_read_early_reviews}
 use Rattle.cr_policy.specs.Triggers.{Position}
 
--- a clear chair, of the first under a label
+-- the mark that there is a form is shown: of the first form under a label, to a chair in no conflict
 abbrev pub is_done_for : Position → Standing → Bool
 is_done_for position by = position.first && is_clear_chair by
 

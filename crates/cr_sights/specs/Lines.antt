@@ -27,27 +27,29 @@ digest_text digest = quoted (encode_lower digest)
 abbrev pub content_text : List ℕ → List ℕ
 content_text content = decimal (length content)
 
--- a deadline by its seconds, and that there is none by 0
+-- a deadline in seconds, 0 if there is none any more
 abbrev pub until_decimal : Option ℕ → List ℕ
 until_decimal until = decimal (unwrap_or until 0)
 
--- the number that its client gave the command, where the key is shown and there is one; no line tells the mark
+-- the number that the client gave the command, if it is shown and there is one; no line tells the mark
 abbrev pub number_told : Option (Option RetryKey) → Option ℕ
 number_told key = option_map (λ (k : RetryKey). k.number) (unwrap_or key None)
 
--- a phase, a mode and a role by their words
+-- a phase as a JSON string
 abbrev pub phase_text : Phase → List ℕ
 phase_text phase = quoted (phase_name phase)
 
+-- a mode as a JSON string
 abbrev pub mode_text : Mode → List ℕ
 mode_text mode = quoted (mode_name mode)
 
+-- a role as a JSON string
 abbrev pub role_text : Role → List ℕ
 role_text role = quoted (role_name role)
 
 -- ---- the users of an entry
 
--- the user whom an entry is about; of a bid that is who made it
+-- the user whom an entry is about; of a bid the user who made it
 abbrev pub user_told : EntryKind → Option ℕ → Option ℕ → Option ℕ
 user_told kinds.Bid by user = by
 user_told kind by user = user
@@ -57,7 +59,7 @@ abbrev pub writer_told : EntryKind → Option ℕ → Option ℕ
 writer_told kinds.Commented by = by
 writer_told kind by = None
 
--- who made an entry, beside both of these
+-- the user who made an entry, except of a bid and a comment, which `user_told` and `writer_told` tell
 abbrev pub by_told : EntryKind → Option ℕ → Option ℕ
 by_told kinds.Bid by = None
 by_told kinds.Commented by = None
@@ -65,7 +67,8 @@ by_told kind by = by
 
 -- ---- a line
 
--- the parts that are shown, and the mark `mine` on the reader's own, with their keys in the order of their bytes
+-- the first members of a line, from `abstract` to `bytes`. A line has the parts that are shown, and the mark `mine` if
+-- the entry is the reader's own, in the order of their keys' bytes.
 unfoldable pub first_members : Sighting → List Member
 first_members s =
     member_of (codes "abstract") (option_map quoted s.abstract)
@@ -74,6 +77,7 @@ first_members s =
     ++ member_of (codes "by") (option_map decimal (by_told s.kind s.by))
     ++ member_of (codes "bytes") (option_map content_text s.content)
 
+-- the members of a line from `confidence` to `kind`
 unfoldable pub second_members : Sighting → List Member
 second_members s =
     member_of (codes "confidence") (option_map decimal s.confidence)
@@ -82,6 +86,7 @@ second_members s =
     ++ member_of (codes "done") (option_map truth_text s.done)
     ++ member_of (codes "kind") (Some (quoted (kind_name s.kind)))
 
+-- the members of a line from `mine` to `on`
 unfoldable pub third_members : Sighting → List Member
 third_members s =
     member_of (codes "mine") (where_told s.mine (Some (codes "true")))
@@ -91,6 +96,7 @@ third_members s =
     ++ member_of (codes "num") (option_map decimal (number_told s.key))
     ++ member_of (codes "on") (option_map truth_text s.on)
 
+-- the members of a line from `ordinal` to `role`
 unfoldable pub fourth_members : Sighting → List Member
 fourth_members s =
     member_of (codes "ordinal") (option_map decimal s.ordinal)
@@ -99,6 +105,7 @@ fourth_members s =
     ++ member_of (codes "phase") (option_map phase_text s.phase)
     ++ member_of (codes "role") (option_map role_text s.role)
 
+-- the members of a line from `score` to `to_authors`
 unfoldable pub fifth_members : Sighting → List Member
 fifth_members s =
     member_of (codes "score") (option_map decimal s.score)
@@ -108,6 +115,7 @@ fifth_members s =
     ++ member_of (codes "title") (option_map quoted s.title)
     ++ member_of (codes "to_authors") (option_map quoted s.to_authors)
 
+-- the members of a line from `to_pc` to `writer`
 unfoldable pub last_members : Sighting → List Member
 last_members s =
     member_of (codes "to_pc") (option_map quoted s.to_pc)
@@ -117,10 +125,12 @@ last_members s =
     ++ member_of (codes "version") (option_map decimal s.version)
     ++ member_of (codes "writer") (option_map decimal (writer_told s.kind s.by))
 
+-- all members of a line
 abbrev pub sighting_members : Sighting → List Member
 sighting_members s =
     first_members s ++ second_members s ++ third_members s ++ fourth_members s ++ fifth_members s ++ last_members s
 
+-- the line of a sighting
 unfoldable pub line_text : Sighting → List ℕ
 line_text s = object_text (sighting_members s) ++ codes "\n"
 

@@ -1,6 +1,5 @@
--- Series: what several entries may give a paper, one after another. They are numbered, 29 for each paper: at
--- index 0 stand its texts, at 27 its content, at 28 the decisions on it, and between the first two the forms
--- under the label of this ordinal.
+-- Series: what several entries may give a paper, one after another. They are numbered, 29 for each paper: its texts are
+-- at index 0, the forms under a label at its ordinal, the contents at 27, and the decisions on it at 28.
 use Rattle.std.specs.Prelude.{◌≡◌, ℕ, ◌+◌, ◌/◌, ◌%◌, ◌==◌, ◌&&◌, nat_le, Bool, true, false, not}
 use Rattle.std.specs.Prelude.{List, [], ◌∷◌, Option, Some, None, if◌then◌else◌, slice_index}
 use Rattle.std.specs.List.{list_any}
@@ -37,7 +36,7 @@ none_of (Some k) H = not (some_of k H)
 
 -- ---- places, counted from 1
 
--- the place of the last of these entries that are of the series, where the first of them stands at place n; else d
+-- the place of the last of these entries that are of the series, if the first of them is at place n; else d
 abbrev pub last_place : ℕ → ℕ → ℕ → History → ℕ
 last_place k d n [] = d
 last_place k d n (e ∷ rest) = last_place k (if is_of k e.entry then n else d) (n + 1) rest
@@ -46,7 +45,7 @@ last_place k d n (e ∷ rest) = last_place k (if is_of k e.entry then n else d) 
 abbrev pub AreLast : List ℕ → History → Type 0
 AreLast places H = (k : ℕ) → slice_index places k ≡ last_place k 0 1 H
 
--- the last entry of a series stands at this place; yes where there is no series
+-- the last entry of a series is at this place; true if there is no series
 abbrev pub is_last_at : List ℕ → Option ℕ → ℕ → Bool
 is_last_at places None place = true
 is_last_at places (Some k) place = slice_index places k == place

@@ -11,7 +11,7 @@ pub record StopsShort (bytes : List ℕ) (s s' : Outlet) : Type 0 where
   pub parts : bytes ≡ part ++ missing
   pub written : Writes part s s'
 
--- All of the bytes were written; or a part of them, behind which a write failed, or memory ran out.
+-- All of the bytes were written; or a part of them, after which a write failed, or memory ran out.
 abbrev pub WritesView : Result (Unit {0}) ViewError → List ℕ → Outlet → Outlet → Type 0
 WritesView (Ok done) bytes s s' = Writes bytes s s'
 WritesView (Err WriteFault) bytes s s' = BreaksOff bytes s s'

@@ -1,6 +1,6 @@
 -- Told of lists: what a view shows of bids, reviewers, tags, reviews, comments, responses, contents and accepted
--- papers, and of its reader herself, is what the answers list: who may know it in the words of the bounds, and what
--- it is from the parts that sightings show.
+-- papers, and of its reader, is what the answers list. Who may know it is said by the bounds (ShownTo), and what it is
+-- by the parts that sightings show.
 use Rattle.std.specs.Prelude.{ℕ, Bool, false, not, ◌≡◌, ◌&&◌, ◌||◌, ◌==◌, List, [], ◌∷◌}
 use Rattle.std.specs.Prelude.{length, map, filter, Option, Some, None, is_some, unwrap_or, if◌then◌else◌}
 use Rattle.std.specs.Option.{option_and_then}
@@ -39,7 +39,7 @@ name_shown user V = option_and_then (name_in (accounts_in_view V)) user
 
 -- ---- a paper's page: what the committee does
 
--- the bids that are shown with whose they are: of each account the last
+-- the bids whose makers are shown: of each account the last
 abbrev pub bids_listed : ℕ → View → List Bidder
 bids_listed p V =
     flat_map
@@ -49,19 +49,19 @@ bids_listed p V =
     (listed (last (bids_shown_of a.user p V))))
     (accounts_in_view V)
 
--- a form under the label is shown to be there
+-- a sighting shows that there is a form under the label
 abbrev pub is_shown_done : ℕ → ℕ → View → Bool
 is_shown_done p o V =
     last_or false (flat_map (λ (s : Sighting). only (is_number s.paper p && is_number s.ordinal o) (listed s.done)) V)
 
--- who may know who reviews the paper by name: who oversees it, who discusses it unless reviewers are hidden, and
--- authors who are answered
+-- the user may know who reviews the paper by name: oversees it, discusses it unless the mode hides reviewers, or is an
+-- author who is told its reviewers
 abbrev pub knows_reviewers : Option ℕ → ℕ → History → Bool
 knows_reviewers u p H = oversees u p H || (discusses u p H && not (hides_reviewers (mode_of H))) || is_answered u p H
 
--- a reviewer as a sighting shows her that assigns her under the label of this ordinal: whether she has written, to
--- chairs in no conflict; what she is to the paper, to the committee's members in none; and her name, to those who may
--- know it
+-- a reviewer as a sighting shows them that assigns them under the label of this ordinal: whether there is a form, to
+-- chairs in no conflict; whether they are the primary, the secondary or another, to members in no conflict; and their
+-- name, to those who may know it
 abbrev pub reviewer_shown : Option ℕ → ℕ → History → Sighting → ℕ → Reviewer
 reviewer_shown u p H s o = record {
   done = where_known (administers u p H) (is_shown_done p o (view u H));
@@ -70,11 +70,11 @@ reviewer_shown u p H s o = record {
   user = if knows_reviewers u p H then name_shown s.user (view u H) else None;
 }
 
--- no sighting takes a reviewer off who was assigned under the label of this ordinal
+-- no sighting unassigns the reviewer who was assigned under the label of this ordinal
 abbrev pub is_left : ℕ → View → ℕ → Bool
 is_left p V o = not (list_any (λ gone. gone == o) (shown_by kinds.Unassigned p (λ (s : Sighting). s.ordinal) V))
 
--- whoever is shown to be assigned, and not to be taken off
+-- the reviewers who are shown to be assigned, and not to be unassigned
 abbrev pub reviewers_listed : Option ℕ → ℕ → History → List Reviewer
 reviewers_listed u p H =
     flat_map
@@ -82,10 +82,12 @@ reviewers_listed u p H =
     (map (reviewer_shown u p H s) (filter (is_left p (view u H)) (listed s.ordinal))))
     (view u H)
 
--- each of these keys of the page of a paper that is there. Bids: to those who oversee it; of each user the last that
--- is shown. Reviewers: to those who oversee it, to those who discuss it, and to authors who are answered; those who
--- are shown and not taken off. Tags: to those who are eligible for it; those that are on by the last sighting of each,
--- her own private ones among them, and those for chairs where she is one.
+-- what each of these keys of the page of a paper that is there holds, and when it is there.
+-- Bids: for those who oversee the paper; of each user the last that is shown.
+-- Reviewers: for those who oversee it, those who discuss it, and its authors if they are told its reviewers; those who
+-- are shown to be assigned and not to be unassigned.
+-- Tags: for those who are eligible for it; those that are on by the last sighting of each, the reader's own private
+-- ones among them, and those for chairs if the reader is one.
 pub record SeatsTold (u : Option ℕ) (p : ℕ) (H : History) : Type 0 where
   pub bids : page_told (λ page. page.bids) u p H ≡ where_known (oversees u p H) (bids_listed p (view u H))
   pub reviewers : page_told (λ page. page.reviewers) u p H
@@ -93,11 +95,13 @@ pub record SeatsTold (u : Option ℕ) (p : ℕ) (H : History) : Type 0 where
   pub tags : page_told (λ page. page.tags) u p H
       ≡ where_known (is_eligible u p H) (tags_in_view u (chairs_committee (role_of u H)) p (view u H))
 
+-- SeatsTold holds of every user, every paper that is there, and every legal history
 abbrev pub PageListsTold : Type 0
 PageListsTold = (u : Option ℕ) (p : ℕ) (H : History) → Legal H → IsSubmitted H p → SeatsTold u p H
 
 -- ---- contents
 
+-- the content that a reply tells; `None` if it tells none
 abbrev pub content_answered : Reply → Option (List ℕ)
 content_answered (replies.Content content) = Some content
 content_answered _ = None
@@ -108,11 +112,12 @@ contents_of p version V =
     flat_map (λ (s : Sighting). only (is_kind kinds.Uploaded s && (is_number s.paper p && is_number s.version version))
     (listed s.content)) V
 
+-- the first of a list
 abbrev pub first_of : {A : Type 0} → List A → Option A
 first_of [] = None
 first_of (x ∷ xs) = Some x
 
--- a paper's content is answered exactly where the view shows one: the last that it shows, and of each version the one
+-- a paper's content is answered if and only if the view shows one: the last that it shows, and of each version the one
 -- that it shows
 pub record ContentTold (u : Option ℕ) (p : ℕ) (H : History) : Type 0 where
   pub newest : content_answered (answer u (view u H) (queries.Content (Some p)))
@@ -121,17 +126,19 @@ pub record ContentTold (u : Option ℕ) (p : ℕ) (H : History) : Type 0 where
       → content_answered (answer u (view u H) (queries.Version (Some p) version))
       ≡ first_of (contents_of p version (view u H))
 
+-- ContentTold holds of every user, every paper that is there, and every legal history
 abbrev pub ContentsTold : Type 0
 ContentsTold = (u : Option ℕ) (p : ℕ) (H : History) → Legal H → IsSubmitted H p → ContentTold u p H
 
 -- ---- comments
 
+-- the comments that a reply tells; `None` if it tells none
 abbrev pub comments_answered : Reply → Option (List CommentLine)
 comments_answered (replies.Comments lines) = Some lines
 comments_answered _ = None
 
--- a comment as a sighting shows it: by its writer's name where it shows who that is, else by her label, where it shows
--- one
+-- a comment as a sighting shows it: with its writer's name if the sighting shows the writer, else with the writer's
+-- label, if it shows one
 abbrev pub comment_shown_by : Sighting → View → List CommentLine
 comment_shown_by s V =
     map (λ (n : ℕ). record {
@@ -142,11 +149,12 @@ comment_shown_by s V =
     })
     (listed s.n)
 
+-- the comments on the paper that the view shows, in order
 abbrev pub comments_listed : ℕ → View → List CommentLine
 comments_listed p V =
     flat_map (λ (s : Sighting). only (is_kind kinds.Commented s && is_number s.paper p) (comment_shown_by s V)) V
 
--- the comments on a paper are answered to those who discuss it, and they are all that are shown
+-- the comments on a paper are answered to those who discuss it, and they are all that the view shows
 abbrev pub CommentsTold : Type 0
 CommentsTold =
     (u : Option ℕ) (p : ℕ) (H : History) → Legal H → IsSubmitted H p
@@ -155,11 +163,12 @@ CommentsTold =
 
 -- ---- responses
 
+-- the response that a reply tells; `None` if it tells none
 abbrev pub response_answered : Reply → Option (List ℕ)
 response_answered (replies.Response text) = Some text
 response_answered _ = None
 
--- what a paper's authors responded is answered exactly where the view shows it
+-- what a paper's authors responded is answered if and only if the view shows it
 abbrev pub ResponsesTold : Type 0
 ResponsesTold =
     (u : Option ℕ) (p : ℕ) (H : History) → Legal H → IsSubmitted H p
@@ -168,11 +177,13 @@ ResponsesTold =
 
 -- ---- accepted papers
 
+-- the accepted papers that a reply tells; `None` if it tells none
 abbrev pub accepted_answered : Reply → Option (List AcceptedPaper)
 accepted_answered (replies.AcceptedPapers papers) = Some papers
 accepted_answered _ = None
 
--- the accepted papers are those that are shown to be, with all the authors that are shown and the last title
+-- the accepted papers are those that the view shows to be accepted, with all the authors that it shows and the last
+-- title
 abbrev pub AcceptedTold : Type 0
 AcceptedTold =
     (u : Option ℕ) (H : History)
@@ -185,19 +196,21 @@ AcceptedTold =
     })
     (filter (λ (p : ℕ). is_shown_accepted p (view u H)) (papers_in_view (view u H))))
 
--- ---- the reader herself
+-- ---- the reader's own page
 
+-- what a reply tells users of themselves; `None` if it tells nothing of that
 abbrev pub me_answered : Reply → Option Me
 me_answered (replies.Me me) = Some me
 me_answered _ = None
 
--- what the reader's own sightings show in this part
+-- what the reader's own sightings show in this part, in order
 abbrev pub own_shown : {A : Type 0} → (Sighting → Option A) → View → List A
 own_shown part V = flat_map (λ (s : Sighting). only s.mine (listed (part s))) V
 
--- her name; the papers of which she is shown as an author, with which she is shown to be in conflict else, and which
--- she is shown to review; those to which she is shown to be invited, where she is on no committee; how many comments of
--- her own are shown, and how many bytes of contents; and the last role that she is shown to be given
+-- what users are told of themselves: their name; the papers of which the view shows them as an author, the others with
+-- which it shows them in conflict, and those that it shows them to review; those to which it shows them to be invited,
+-- unless they are on the committee; how many comments of their own it shows, and how many bytes of contents; and the
+-- last role that it shows them to be given
 abbrev pub MeTold : Type 0
 MeTold =
     (v : ℕ) (H : History)

@@ -1,8 +1,8 @@
--- Told: what a view shows, some answer tells. Of each key of a paper's page, when it is there and what it holds, in a
--- committee's words (the HotCRP manual's title, abstract, authors, conflicts, review preferences, reviewers, tags and
--- decisions, by CoCon's phases): from what the sightings of the view show in a part, whatever the page's definition
--- makes of them. Who is told, where a view can't show it, is said in the words of the bounds. That each sighting has
--- its place in an answer stands in ToldPlaces.
+-- Told: what a view shows, some answer tells. Here it is said of each key of a paper's page when it is there and what
+-- it holds, in a committee's terms (the HotCRP manual's title, abstract, authors, conflicts, review preferences,
+-- reviewers, tags and decisions, by CoCon's phases): by the parts that the view's sightings show, and not by the page's
+-- definition. Where a view can't show who is told, the bounds (ShownTo) say it. That each sighting has its place in an
+-- answer is said in ToldPlaces.
 use Rattle.std.specs.Prelude.{ℕ, Bool, true, false, not, ◌≡◌, ◌&&◌, ◌||◌, ◌==◌, List, [], ◌∷◌}
 use Rattle.std.specs.Prelude.{map, filter, Option, Some, None, is_some, unwrap_or, if◌then◌else◌}
 use Rattle.std.specs.Option.{option_map}
@@ -30,23 +30,23 @@ use Rattle.cr_bounds.specs.ShownTo.{oversees, discusses, is_notified, where_know
 
 -- ---- what a view shows
 
--- what the sightings on the paper show in this part, in order, whatever kinds of entry they are of
+-- what the sightings on the paper show in this part, in order, whatever their kinds
 abbrev pub shown_on : {A : Type 0} → ℕ → (Sighting → Option A) → View → List A
 shown_on p part V = flat_map (λ (s : Sighting). only (is_number s.paper p) (listed (part s))) V
 
--- the same, of those of this kind of entry
+-- what the sightings of this kind on the paper show in this part, in order
 abbrev pub shown_by : {A : Type 0} → EntryKind → ℕ → (Sighting → Option A) → View → List A
 shown_by kind p part V = flat_map (λ (s : Sighting). only (is_kind kind s && is_number s.paper p) (listed (part s))) V
 
--- and of those that name the user
+-- what the sightings on the paper that name the user show in this part, in order
 abbrev pub shown_of : {A : Type 0} → Option ℕ → ℕ → (Sighting → Option A) → View → List A
 shown_of u p part V = flat_map (λ (s : Sighting). only (is_number s.paper p && is_user u s.user) (listed (part s))) V
 
--- a sighting on the paper is of this kind of entry
+-- a sighting on the paper is of this kind
 abbrev pub is_shown : EntryKind → ℕ → View → Bool
 is_shown kind p V = list_any (λ (s : Sighting). is_kind kind s && is_number s.paper p) V
 
--- the author whom a sighting of this kind shows: who submitted the paper, or who is named a co-author
+-- the author whom a sighting of this kind shows: the submitter of the paper, or a co-author
 abbrev pub writer_by : EntryKind → Option ℕ → Option ℕ → Option ℕ
 writer_by kinds.Submitted by user = by
 writer_by kinds.Coauthor by user = user
@@ -56,35 +56,35 @@ writer_by _ by user = None
 abbrev pub writers_shown : ℕ → View → List ℕ
 writers_shown p V = shown_on p (λ (s : Sighting). writer_by s.kind s.by s.user) V
 
--- the user's conflict with the paper, as the last sighting shows it that turns it on or off
+-- the user's conflict with the paper is on, by the last sighting on it
 abbrev pub is_shown_in_conflict : Option ℕ → ℕ → View → Bool
 is_shown_in_conflict u p V = last_or false (shown_of u p (λ (s : Sighting). s.on) V)
 
--- what a sighting of this kind makes of a reviewer: one under the label of this ordinal, or none any more
+-- what a sighting of this kind says of a reviewer: that they have the label of this ordinal, or no longer
 abbrev pub ordinal_by : EntryKind → Option ℕ → Option (Option ℕ)
 ordinal_by kinds.Assigned ordinal = option_map (λ (o : ℕ). Some o) ordinal
 ordinal_by kinds.Unassigned ordinal = option_map (λ (o : ℕ). None) ordinal
 ordinal_by _ ordinal = None
 
--- the ordinal of the label under which the user reviews the paper, as the last sighting shows it that assigns her or
--- takes her off
+-- the ordinal of the label under which the user reviews the paper, by the last sighting that assigns or unassigns them
 abbrev pub label_shown_of : Option ℕ → ℕ → View → Option ℕ
 label_shown_of u p V = last_or None (shown_of u p (λ (s : Sighting). ordinal_by s.kind s.ordinal) V)
 
--- what a sighting of this kind makes of an invitation: one, or none any more
+-- what a sighting of this kind says of an invitation: that it is on, or no longer
 abbrev pub invitation_by : EntryKind → Option Bool
 invitation_by kinds.Invited = Some true
 invitation_by kinds.Uninvited = Some false
 invitation_by _ = None
 
--- the user's invitation to the paper, as the last sighting shows it that invites her or takes that back
+-- the user is invited to the paper, by the last sighting that invites them or ends the invitation
 abbrev pub is_shown_invited : Option ℕ → ℕ → View → Bool
 is_shown_invited u p V = last_or false (shown_of u p (λ (s : Sighting). invitation_by s.kind) V)
 
--- the reader's own bids on the paper, and those of a user that are shown as hers
+-- the reader's own bids on the paper, in order
 abbrev pub own_bids_shown : ℕ → View → List ℕ
 own_bids_shown p V = flat_map (λ (s : Sighting). only (is_number s.paper p && s.mine) (listed s.value)) V
 
+-- the bids on the paper that are shown as this user's, in order
 abbrev pub bids_shown_of : ℕ → ℕ → View → List ℕ
 bids_shown_of v p V =
     flat_map (λ (s : Sighting). only (is_number s.paper p && is_user (Some v) s.by) (listed s.value)) V
@@ -93,7 +93,7 @@ bids_shown_of v p V =
 abbrev pub is_shown_accepted : ℕ → View → Bool
 is_shown_accepted p V = last_or false (shown_on p (λ (s : Sighting). s.accepted) V)
 
--- the names of users, as the accounts shown have them
+-- the names of these users, as the accounts shown have them
 abbrev pub names_shown : List ℕ → View → List (List ℕ)
 names_shown users V = names_in (accounts_in_view V) users
 
@@ -103,41 +103,44 @@ users_shown test V = filter test (map (λ (a : AccountLine). a.user) (accounts_i
 
 -- ---- what is answered
 
--- the page, where the answer is one
+-- the page that a reply tells; `None` if it tells none
 abbrev pub page_answered : Reply → Option Page
 page_answered (replies.Page page) = Some page
 page_answered _ = None
 
--- what the paper's page has under a key: nothing where the page is refused
+-- what the page has under a key; `None` if there is no page
 abbrev pub key_in : {A : Type 0} → (Page → Option A) → Option Page → Option A
 key_in key None = None
 key_in key (Some page) = key page
 
+-- what the answer to the user's query of the paper's page has under a key; `None` if the page is refused
 abbrev pub page_told : {A : Type 0} → (Page → Option A) → Option ℕ → ℕ → History → Option A
 page_told key u p H = key_in key (page_answered (answer u (view u H) (queries.Page (Some p))))
 
 -- ---- a paper's page
 
--- she is on the committee, and in no conflict with the paper
+-- the user is on the committee, and in no conflict with the paper
 abbrev pub is_clear : Option ℕ → ℕ → History → Bool
 is_clear u p H = is_on_committee (role_of u H) && not (has_conflict u p H)
 
--- the names of some users, where there are any
+-- the names of these users; `None` if there are no users
 abbrev pub some_names : List ℕ → View → Option (List (List ℕ))
 some_names [] V = None
 some_names (u ∷ users) V = Some (names_shown (u ∷ users) V)
 
--- each key of the page of a paper that is there: when it is on the page, and what it holds. The page is answered to
--- whoever is on the committee, is an external or an author, or is shown that the paper is accepted. Title and
--- abstract: exactly where the view shows one of the paper, and it is the last. Authors: exactly where the view shows
--- one, and they are all that it shows, in order. Withdrawn: to authors, to those who serve and to externals who read
--- it, and it says whether the view shows that it was. Versions: exactly where the view shows an abstract, and they
--- are those of the uploads that it shows. Decision: to those who discuss it, to authors who are notified, and to
--- everyone who is shown that the paper is accepted, and then it is that; else the last one that is shown. Conflict:
--- to the committee, to externals and to authors; she is shown to be an author, or in conflict. Conflicts: to those
--- who oversee it; whoever is shown in conflict, by number. Declared: to authors; whom an author named, by number.
--- Bid: to those who are eligible for it; the last of her own that is shown, else 20, for none. Label: to the
--- committee's members and to externals in no conflict; the one under which she is shown to review it.
+-- what each key of the page of a paper that is there holds, and when it is there. The page is answered to a user who is
+-- on the committee, is an external or an author of the paper, or is shown that it is accepted.
+-- Title and abstract: if and only if the view shows one of the paper; the last that it shows.
+-- Authors: if and only if the view shows one; all that it shows, in order.
+-- Withdrawn: for authors, those who serve, and externals who read it; whether the view shows that it was withdrawn.
+-- Versions: if and only if the view shows an abstract; those of the uploads that it shows.
+-- Decision: for those who discuss the paper, its authors from the notification on, and everyone who is shown that it is
+-- accepted; that it is accepted, if that is shown, else the last decision that is shown.
+-- Conflict: for the committee, externals and authors; whether the reader is shown to be an author, or in conflict.
+-- Conflicts: for those who oversee the paper; the users who are shown to be in conflict, by number.
+-- Declared: for authors; the users whom an author named, by number.
+-- Bid: for those who are eligible; the last of the reader's own that is shown, or 20, which is none.
+-- Label: for members and externals in no conflict; the one under which the reader is shown to review the paper.
 pub record PageTold (u : Option ℕ) (p : ℕ) (H : History) : Type 0 where
   pub paper : page_told (λ page. Some page.paper) u p H
       ≡ where_known (is_on_committee (role_of u H) || visits u p H || is_author u p H
@@ -169,5 +172,6 @@ pub record PageTold (u : Option ℕ) (p : ℕ) (H : History) : Type 0 where
   pub label : page_told (λ page. page.label) u p H
       ≡ (if is_clear u p H || (visits u p H && not (has_conflict u p H)) then label_shown_of u p (view u H) else None)
 
+-- PageTold holds of every user, every paper that is there, and every legal history
 abbrev pub PagesTold : Type 0
 PagesTold = (u : Option ℕ) (p : ℕ) (H : History) → Legal H → IsSubmitted H p → PageTold u p H

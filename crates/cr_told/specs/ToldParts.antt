@@ -1,5 +1,5 @@
--- Told of every part: of each sighting of a view, and each part that it shows, an answer tells it, or it is left out
--- under a name. First when an answer tells a part, kind by kind, then what is left out.
+-- Told of every part: each part that each sighting of a view shows is told by an answer, or left out for a reason that
+-- is named here. First it is said when an answer tells a part, kind by kind, then what is left out.
 use Rattle.std.specs.Prelude.{ℕ, Bool, true, false, not, ◌≡◌, ◌==◌, ◌&&◌, ◌||◌, List, [], ◌∷◌}
 use Rattle.std.specs.Prelude.{◌++◌, Option, Some, None, is_some, is_none, unwrap_or, IsTrue, nat_eq, if◌then◌else◌}
 use Rattle.std.specs.Option.{option_map, option_and_then}
@@ -79,98 +79,109 @@ has part.key s = is_some s.key
 
 -- ---- when an answer tells a part
 
--- both are there, and the same
+-- both values are there, and are equal by this test
 abbrev pub agree : {A : Type 0} → (A → A → Bool) → Option A → Option A → Bool
 agree same (Some x) (Some y) = same x y
 agree same _ _ = false
 
--- one of those that are listed passes; where no list is answered, none does
+-- the list is answered, and this holds of one of its values
 abbrev pub lists : {A : Type 0} → Option (List A) → (A → Bool) → Bool
 lists None test = false
 lists (Some xs) test = list_any test xs
 
+-- the two roles are equal
 abbrev pub same_role : Role → Role → Bool
 same_role r s = role_number r == role_number s
 
+-- the two modes are equal
 abbrev pub same_mode : Mode → Mode → Bool
 same_mode m n = mode_number m == mode_number n
 
--- the answers
+-- the accounts that a reply tells; `None` if it tells none
 abbrev pub accounts_answered : Reply → Option (List AccountLine)
 accounts_answered (replies.Accounts lines) = Some lines
 accounts_answered _ = None
 
+-- the accounts that the user is answered
 abbrev pub accounts_given : Option ℕ → History → Option (List AccountLine)
 accounts_given u H = accounts_answered (answer u (view u H) queries.Accounts)
 
+-- what a reply tells of the conference; `None` if it tells nothing of that
 abbrev pub conference_answered : Reply → Option Conference
 conference_answered (replies.Conference conference) = Some conference
 conference_answered _ = None
 
+-- what the user is answered of the conference
 abbrev pub conference_given : Option ℕ → History → Option Conference
 conference_given u H = conference_answered (answer u (view u H) queries.Phase)
 
+-- the deadlines that a reply tells; `None` if it tells none
 abbrev pub deadlines_answered : Reply → Option (List PhaseDeadline)
 deadlines_answered (replies.Deadlines lines) = Some lines
 deadlines_answered _ = None
 
+-- the deadlines that the user is answered
 abbrev pub deadlines_given : Option ℕ → History → Option (List PhaseDeadline)
 deadlines_given u H = deadlines_answered (answer u (view u H) queries.Deadlines)
 
+-- the two decisions are equal
 abbrev pub same_decision : Decision → Decision → Bool
 same_decision d e = decision_number d == decision_number e
 
+-- the two kinds of reviewers are equal
 abbrev pub same_kind : Kind → Kind → Bool
 same_kind k l = review_kind_number k == review_kind_number l
 
--- the paper of a sighting
+-- the paper of a sighting; 0 if it is on none
 abbrev pub paper_of : Sighting → ℕ
 paper_of s = unwrap_or s.paper 0
 
--- the key of its paper's page
+-- what the page of the sighting's paper has under a key, as the user is answered it
 abbrev pub key : {A : Type 0} → (Page → Option A) → Option ℕ → History → Sighting → Option A
 key of u H s = page_told of u (paper_of s) H
 
--- the comments on its paper, what its authors responded, and the accepted papers
+-- the comments on the sighting's paper that the user is answered
 abbrev pub comments_given : Option ℕ → History → Sighting → Option (List CommentLine)
 comments_given u H s = comments_answered (answer u (view u H) (queries.Comments (Some (paper_of s))))
 
+-- the response to the reviews of the sighting's paper that the user is answered
 abbrev pub response_given : Option ℕ → History → Sighting → Option (List ℕ)
 response_given u H s = response_answered (answer u (view u H) (queries.Response (Some (paper_of s))))
 
+-- the accepted papers that the user is answered
 abbrev pub accepted_given : Option ℕ → History → Option (List AcceptedPaper)
 accepted_given u H = accepted_answered (answer u (view u H) queries.AcceptedPapers)
 
--- the papers that the reader reviews, as she is told of herself
+-- the papers that the user reviews, as the answer to the query `Me` tells
 abbrev pub assigned_given : Option ℕ → History → Option (List ℕ)
 assigned_given u H = option_map (λ (me : Me). me.assigned) (me_answered (answer u (view u H) queries.Me))
 
--- those to which she is invited
+-- the papers to which the user is invited, as the answer to the query `Me` tells
 abbrev pub invited_given : Option ℕ → History → Option (List ℕ)
 invited_given u H = option_map (λ (me : Me). me.invited) (me_answered (answer u (view u H) queries.Me))
 
--- and those with which she is in conflict
+-- the papers with which the user is in conflict, as the answer to the query `Me` tells
 abbrev pub conflicts_given : Option ℕ → History → Option (List ℕ)
 conflicts_given u H = option_map (λ (me : Me). me.conflicts) (me_answered (answer u (view u H) queries.Me))
 
--- the name of this user, by the accounts that are shown, is this
+-- this is the name of the user, by the accounts that the view shows
 abbrev pub is_name_of : Option ℕ → Option ℕ → History → List ℕ → Bool
 is_name_of user u H name = agree bytes_eq (name_shown user (view u H)) (Some name)
 
--- a line of the paper's reviews has the form's label, and passes
+-- a line of the answered reviews of the sighting's paper has the form's label, and this holds of it
 abbrev pub has_line : Option ℕ → History → Sighting → (ReviewLine → Bool) → Bool
 has_line u H s test =
     lists (reviews_answered (answer u (view u H) (queries.Reviews (Some (paper_of s)))))
     (λ line. is_number s.ordinal line.label && test line)
 
--- one of the paper's reviewers has the form's label, and has written
+-- one of the reviewers on the paper's page has the form's label, and the mark that there is a form
 abbrev pub has_mark : Option ℕ → History → Sighting → Bool
 has_mark u H s =
     lists (key (λ page. page.reviewers) u H s)
     (λ reviewer. is_number s.ordinal reviewer.label && unwrap_or reviewer.done false)
 
--- a conflict that is turned on stands among the reader's own, among the paper's conflicts, or among those that its
--- authors declared
+-- a conflict that the sighting turns on is among the reader's own, among the paper's conflicts, or among those that its
+-- authors declared, as answers tell
 abbrev pub is_conflict_told : Option ℕ → History → Sighting → Bool
 is_conflict_told u H s =
     unwrap_or s.on false
@@ -178,22 +189,25 @@ is_conflict_told u H s =
     || lists (key (λ page. page.conflicts) u H s) (is_name_of s.user u H)
     || lists (key (λ page. page.declared) u H s) (is_name_of s.user u H))
 
--- a tag that is turned on stands among the paper's tags
+-- a tag that the sighting turns on is among the tags on the paper's page
 abbrev pub is_tag_told : Option ℕ → History → Sighting → Bool
 is_tag_told u H s =
     unwrap_or s.on false && lists (key (λ page. page.tags) u H s) (λ tag. agree bytes_eq s.tag (Some tag))
 
--- a line of the deadlines has the phase that the sighting shows, and passes
+-- a line of the answered deadlines has the phase that the sighting shows, and this holds of it
 abbrev pub has_deadline : Option ℕ → History → Sighting → (ℕ → Bool) → Bool
 has_deadline u H s test =
     lists (deadlines_given u H) (λ line. agree is_phase s.phase (Some line.phase) && test line.until)
 
--- an answer tells this part of a sighting of this kind: the accounts who registered, under which name, and in which
--- role; the conference its phase and mode; the deadlines each phase that has one, and it; the paper's page its title,
--- abstract, authors, versions, conflicts, bids, reviewers, tags and decision, and the reader's own bid and label; the
--- content of a version; the reviews and the comments their lines, and the response its text; the accepted papers that
--- it is one; and what she is told of herself with which papers she is in conflict, which she reviews, and to which she
--- is invited. A line for each part that a kind has, and nothing else is told
+-- an answer tells this part of a sighting of this kind; a line for each part that a kind has, and no other part is
+-- told.
+-- The accounts tell who registered, under which name, and in which role; the conference its phase and mode; the
+-- deadlines each phase that has one, and the deadline.
+-- A paper's page tells its title, abstract, authors, versions, conflicts, bids, reviewers, tags and decision, and the
+-- reader's own bid and label; the other answers on it the content of a version, the lines of reviews and comments, and
+-- the text of the response.
+-- The accepted papers tell that a paper is accepted. The query `Me` tells with which papers the reader is in conflict,
+-- which they review, and to which they are invited.
 abbrev pub is_told : Option ℕ → History → Sighting → EntryKind → Part → Bool
 is_told u H s kinds.Registered part.user = lists (accounts_given u H) (λ line. is_number s.user line.user)
 is_told u H s kinds.Registered part.name =
@@ -271,9 +285,9 @@ is_told u H s _ _ = false
 abbrev pub is_again : {A : Type 0} → (Sighting → Option A) → Sighting → View → Bool
 is_again of s after = not (is_nothing (shown_on (paper_of s) of after))
 
--- the conflict is turned off, and no list has it any more. Else, to an author of the paper, who is told of all that
--- its authors declared: it is her own, and none of them declared it. To others: a later sighting turns it on or off, or
--- it is left behind
+-- a conflict is left out: it is turned off, and no list has it any more. Or the reader is an author of the paper, and
+-- it names the reader and no author declared it. Or the reader is no author, and a later sighting turns it on or off,
+-- or it is left behind (`is_conflict_behind`).
 abbrev pub is_conflict_left : Option ℕ → History → Sighting → View → Bool
 is_conflict_left u H s after =
     not (unwrap_or s.on true)
@@ -282,26 +296,27 @@ is_conflict_left u H s after =
     else not (is_nothing (shown_of s.user (paper_of s) (λ (t : Sighting). t.on) after))
     || is_conflict_behind u (paper_of s) H s)
 
--- the reviewer who is assigned is shown to be taken off
+-- the reviewer whom the sighting assigns is shown to be unassigned
 abbrev pub is_taken_off : Option ℕ → History → Sighting → Bool
 is_taken_off u H s = not (is_left (paper_of s) (view u H) (unwrap_or s.ordinal 0))
 
--- the reader is the one assigned, and is shown later to be taken off, or assigned again
+-- the sighting assigns the reader, who is shown later to be unassigned or assigned again
 abbrev pub is_seated_again : Option ℕ → Sighting → View → Bool
 is_seated_again u s after = is_user u s.user
     && not (is_nothing (shown_of u (paper_of s) (λ (t : Sighting). ordinal_by t.kind t.ordinal) after))
 
--- the reader gave another the seat as a chair, and may not know who reviews the paper: she came into conflict with it
+-- the reader assigned another as a chair, and may no longer know who reviews the paper: came into conflict with it
 -- since, or was dismissed
 abbrev pub is_name_behind : Option ℕ → History → Sighting → Bool
 is_name_behind u H s = s.mine && not (is_user u s.user) && not (knows_reviewers u (paper_of s) H)
 
--- the seat is behind, but for the reader's own on a paper that is before her, of which she is told her label
+-- the seat is left behind (`is_seat_behind`), unless it is the reader's own on a paper that they may read to judge it,
+-- whose page tells them their label
 abbrev pub is_label_behind : Option ℕ → History → Sighting → Bool
 is_label_behind u H s =
     is_seat_behind u (paper_of s) H s && not (is_user u s.user && has_before_her u (paper_of s) H)
 
--- a later sighting invites the reader to the paper again, or takes that back
+-- a later sighting invites the reader to the paper again, or ends the invitation
 abbrev pub is_uninvited : Option ℕ → Sighting → View → Bool
 is_uninvited u s after =
     not (is_nothing (shown_of u (paper_of s) (λ (t : Sighting). invitation_by t.kind) after))
@@ -312,19 +327,20 @@ scores_at p o V =
     flat_map (λ (t : Sighting). only (is_kind kinds.Reviewed t && (is_number t.paper p && is_number t.ordinal o))
     (listed t.score)) V
 
--- a later form under the label is shown: to authors, any; to others, one before the
--- discussion is opened after this one
+-- a later form under the label is shown: to authors, any; to others, one before the discussion that is opened after
+-- this one
 abbrev pub is_followed : Option ℕ → History → Sighting → View → Bool
 is_followed u H s after =
     not (is_nothing
     (scores_at (paper_of s) (unwrap_or s.ordinal 0)
     (if is_author u (paper_of s) H then after else until discussion_seen after)))
 
+-- a form is left out: a later one follows it (`is_followed`), or it is left behind (`is_form_behind`)
 abbrev pub is_form_left : Option ℕ → History → Sighting → View → Bool
 is_form_left u H s after = is_followed u H s after || is_form_behind u (paper_of s) H s
 
--- the tag is turned off, and no list has it any more; or a later sighting turns it on or off; or it is left behind, or
--- is one for chairs, of which the reader is none any more
+-- a tag is left out: it is turned off, and no list has it any more; or a later sighting turns it on or off; or it is
+-- left behind (`is_left_behind`), or is one for chairs, and the reader is no longer one
 abbrev pub is_tag_left : Option ℕ → History → Sighting → View → Bool
 is_tag_left u H s after =
     not (unwrap_or s.on true)
@@ -333,21 +349,24 @@ is_tag_left u H s after =
     || is_left_behind u (paper_of s) H s
     || (s.mine && is_chairs (unwrap_or s.tag []) && not (chairs_committee (role_of u H)))
 
--- the phase's deadline is taken away, and no list has it any more; or a later sighting sets it, or takes it away
+-- a deadline is left out: it is taken away, and no list has it any more; or a later sighting sets it or takes it away
 abbrev pub is_deadline_left : Sighting → View → Bool
 is_deadline_left s after =
     is_none (unwrap_or s.until None) || not (is_nothing (deadlines_shown (unwrap_or s.phase Setup) after))
 
--- what no answer tells of a sighting of this kind: the digest of a secret; a role, a phase, a mode, a deadline, a
--- title, an abstract, a bid, a form, a decision, a conflict or a tag turned on, that a later sighting follows; a
--- deadline that is taken away; a conflict and a tag that are turned off; a reviewer who is taken off, and who it was;
--- the reader's own seat, where she is seated anew, and what she is to the paper, where she isn't told its reviewers;
--- her conflict with a paper of her own, where no author declared it; the label with a comment whose writer is named,
--- and that she has none; a decision before the one by which the paper was accepted; and the reader's own entries on a
--- paper that she isn't eligible for, what she did as a chair: conflicts on one that she doesn't oversee, and seats on
--- one of which she isn't told the reviewers, and her own label on one that isn't before her, since she came into
--- conflict with it or was dismissed; who else is invited, that she is where she is a member since, and whose
--- invitation was taken back; and when she made her own entries, and by which numbers
+-- no answer tells this part of a sighting of this kind:
+-- the digest of a secret; when the reader made their own entries, and by which numbers;
+-- a role, a phase, a mode, a deadline, a title, an abstract, a bid, a form, a decision, a conflict or a tag turned on
+-- that a later sighting follows; a decision before the one by which the paper was accepted;
+-- a deadline that is taken away; a conflict or a tag that is turned off; a reviewer who is unassigned, and who it was;
+-- the reader's own seat, if they are assigned anew; whether they are the primary, the secondary or another, if they
+-- aren't told the paper's reviewers; their conflict with a paper of their own, if no author declared it;
+-- the label with a comment whose writer is named, and that a writer has none;
+-- the reader's own entries on a paper for which they aren't eligible; conflicts that they turned on or off as a chair,
+-- on a paper that they don't oversee; seats that they gave or took as a chair, on a paper of which they aren't told the
+-- reviewers; and their own label on a paper that they may no longer read to judge it, since they came into conflict
+-- with it or were dismissed;
+-- who else is invited; that the reader is, if they are a member since; and whose invitation ended
 abbrev pub is_left_untold : Option ℕ → History → Sighting → View → EntryKind → Part → Bool
 is_left_untold u H s after kinds.Registered part.digest = true
 is_left_untold u H s after kinds.Named part.role = not (is_nothing (roles_shown s.user after))
@@ -400,8 +419,8 @@ is_left_untold u H s after _ _ = false
 
 -- ---- all of it
 
--- every part that a view of a legal history shows is told, or left out: of each sighting, whatever its kind, which
--- stands behind some and before others
+-- PartsTold: every part that each sighting of a view of a legal history shows, whatever sightings are before and after
+-- it, is told or left out
 abbrev pub PartsTold : Type 0
 PartsTold =
     (u : Option ℕ) (H : History) (before : View) (s : Sighting) (after : View) (what : Part) → Legal H

@@ -1,6 +1,6 @@
 -- Told of reports: to whom each is answered, and that its lines have what the view shows. How a line is laid out is
--- the report's (Reports); who reviews a paper in the load, and the forms of the letter, are the facts of the view that
--- stand behind the reviewers and the reviews.
+-- said in Reports. Who reviews a paper, in the load, and the forms of the letter are the facts of the view by which the
+-- reviewers on a page and the reviews are answered.
 use Rattle.std.specs.Prelude.{ℕ, Bool, true, false, not, ◌≡◌, ◌&&◌, ◌||◌, List, [], ◌++◌}
 use Rattle.std.specs.Prelude.{length, map, filter, Option, Some, None, unwrap_or, if◌then◌else◌}
 use Rattle.std.specs.List.{flat_map, list_any}
@@ -35,33 +35,36 @@ use Rattle.cr_told.specs.ToldPages.{shown_on, is_shown, writers_shown, is_shown_
 use Rattle.cr_told.specs.ToldLists.{name_shown, is_shown_done, knows_reviewers}
 use Rattle.cr_told.specs.ToldReviews.{forms_listed}
 
+-- the text of the report that a reply tells; `None` if it tells none
 abbrev pub report_answered : Reply → Option (List ℕ)
 report_answered (replies.Report text) = Some text
 report_answered _ = None
 
 -- ---- what the view shows of a paper
 
--- the last title; whether the reader is shown as an author, or in conflict; and the decision: to accept the paper
--- where it is shown to be accepted
+-- the last title of the paper that is shown; empty if none is
 abbrev pub title_shown : ℕ → View → List ℕ
 title_shown p V = unwrap_or (last (shown_on p (λ (s : Sighting). s.title) V)) []
 
+-- the reader is shown to be an author of the paper, or in conflict with it
 abbrev pub is_hers_or_in_conflict : Option ℕ → ℕ → View → Bool
 is_hers_or_in_conflict u p V = list_any (is_number u) (writers_shown p V) || is_shown_in_conflict u p V
 
+-- the decision on the paper that is shown: to accept it, if it is shown to be accepted; else the last
 abbrev pub decision_shown : ℕ → View → Option Decision
 decision_shown p V = if is_shown_accepted p V then Some Accept else last (shown_on p (λ (s : Sighting). s.decision) V)
 
--- the papers with which she is in no conflict, and those of them that aren't shown to be withdrawn
+-- the papers with which the reader is in no conflict
 abbrev pub papers_clear : Option ℕ → View → List ℕ
 papers_clear u V = filter (λ (p : ℕ). not (is_hers_or_in_conflict u p V)) (papers_in_view V)
 
+-- those of these papers that aren't shown to be withdrawn
 abbrev pub papers_open : Option ℕ → View → List ℕ
 papers_open u V = filter (λ (p : ℕ). not (is_shown kinds.Withdrawn p V)) (papers_clear u V)
 
 -- ---- the texts
 
--- all papers that are there, each with its number, its mark and its title
+-- the report of all papers, each with its number, its mark and its title
 abbrev pub papers_text : Option ℕ → View → List ℕ
 papers_text u V =
     flat_map
@@ -70,7 +73,7 @@ papers_text u V =
     (papers_in_view V)
     ++ papers_end (length (papers_in_view V))
 
--- of each label the score of the last form that the committee discusses
+-- the scores on the paper: of each label that of the last form that the committee discusses
 abbrev pub scores_shown : ℕ → View → List ℕ
 scores_shown p V =
     by_labels
@@ -82,11 +85,11 @@ scores_shown p V =
     ++ forms_listed false true p V o (since discussion_seen V)))))
     most_labels
 
--- the open papers that have scores
+-- the report of scores: the open papers that have some
 abbrev pub scores_text : Option ℕ → View → List ℕ
 scores_text u V = flat_map (λ (p : ℕ). scores_line p (scores_shown p V) (title_shown p V)) (papers_open u V)
 
--- of the reviewers of the clear papers how many are the user, and pass
+-- how many of the seats on the clear papers are the user's, and satisfy this test
 abbrev pub held_shown : Option ℕ → ℕ → (ℕ → SeatTold → Bool) → View → ℕ
 held_shown u user test V =
     total (map
@@ -94,7 +97,7 @@ held_shown u user test V =
     (filter (λ (seat : SeatTold). is_number seat.user user && test p seat) (reviewers_in_view p V)))
     (papers_clear u V))
 
--- the accounts on the committee, each with its counts
+-- the report of the load: the accounts on the committee, each with its counts
 abbrev pub load_text : Option ℕ → View → List ℕ
 load_text u V =
     flat_map
@@ -107,7 +110,7 @@ load_text u V =
     ++ line_end)
     (filter (λ (a : AccountLine). is_on_committee a.role) (accounts_in_view V))
 
--- the open papers, each with its decision, and how many have which
+-- the report of decisions: the open papers, each with its decision, and how many have which
 abbrev pub decisions_text : Option ℕ → View → List ℕ
 decisions_text u V =
     flat_map (λ (p : ℕ). in_four p ++ space ++ to_left 6 (decision_word (decision_shown p V)) ++ space
@@ -117,7 +120,8 @@ decisions_text u V =
     (length (filter (λ (p : ℕ). is_rejecting (decision_shown p V)) (papers_open u V)))
     (length (filter (λ (p : ℕ). is_undecided (decision_shown p V)) (papers_open u V)))
 
--- title, decision, and of each label the last form, by its writer where who reviews may be known
+-- the letter on a paper: its title, its decision, and of each label the last form, with its writer if the reader may
+-- know who reviews
 abbrev pub letter_text : Option ℕ → ℕ → History → List ℕ
 letter_text u p H =
     paper_named_line p (title_shown p (view u H))
@@ -131,8 +135,8 @@ letter_text u p H =
 
 -- ---- to whom
 
--- all papers to the committee, from the bidding on, and scores and decisions from the discussion on; the load to
--- chairs, from the bidding on
+-- to whom reports are answered, and with which text: all papers to the committee from the bidding on, scores and
+-- decisions to the committee from the discussion on, the load to chairs from the bidding on
 pub record ReportsToldTo (u : Option ℕ) (H : History) : Type 0 where
   pub papers : report_answered (answer u (view u H) (queries.Report reports.Papers))
       ≡ where_known (serves u H) (papers_text u (view u H))
@@ -143,10 +147,11 @@ pub record ReportsToldTo (u : Option ℕ) (H : History) : Type 0 where
   pub decisions : report_answered (answer u (view u H) (queries.Report reports.Decisions))
       ≡ where_known (is_on_committee (role_of u H) && is_past_reviewing (phase_of H)) (decisions_text u (view u H))
 
+-- ReportsToldTo holds of every user on every history
 abbrev pub ReportsTold : Type 0
 ReportsTold = (u : Option ℕ) (H : History) → ReportsToldTo u H
 
--- the letter to the authors of a paper, once they are notified
+-- the letter on a paper is answered to its authors, from the notification on
 abbrev pub LettersTold : Type 0
 LettersTold =
     (u : Option ℕ) (p : ℕ) (H : History) → Legal H → IsSubmitted H p

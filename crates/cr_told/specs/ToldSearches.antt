@@ -1,5 +1,5 @@
--- Told of searches: a paper is found exactly where it has a title for the reader and the terms hold of what the
--- answers tell her of it.
+-- Told of searches: a paper is found if and only if the view shows a title of it, and the terms hold of what the
+-- answers tell the reader of it.
 use Rattle.std.specs.Prelude.{ℕ, true, false, ◌≡◌, List, [], length, map, filter, Option, Some, None, is_some}
 use Rattle.std.specs.Prelude.{unwrap_or}
 use Rattle.cr_base.specs.declared.command.Query.TheVariants as queries
@@ -17,7 +17,7 @@ use Rattle.cr_told.specs.ToldLists.{comments_answered, response_answered}
 use Rattle.cr_told.specs.ToldReports.{is_hers_or_in_conflict}
 use Rattle.cr_told.specs.ToldReviews.{reviews_answered}
 
--- a page that isn't answered has no key
+-- a page without a key, in place of one that isn't answered
 abbrev pub no_page : ℕ → Page
 no_page p = record {
   paper = p;
@@ -37,8 +37,8 @@ no_page p = record {
   withdrawn = None;
 }
 
--- what the answers tell of a paper: its page, its reviews and its comments, where they are answered; whether its
--- response is; and whether the view shows that it is accepted, and that she is in conflict with it
+-- what the answers tell of a paper: its page, its reviews and its comments, if they are answered; whether its response
+-- is answered; and whether the view shows that it is accepted, and the reader in conflict with it
 abbrev pub told_in_answers : Option ℕ → History → ℕ → PaperTold
 told_in_answers u H p = record {
   page = unwrap_or (page_answered (answer u (view u H) (queries.Page (Some p)))) (no_page p);
@@ -60,5 +60,6 @@ pub record SearchTold (u : Option ℕ) (H : History) (search : List Step) : Type
   pub found : answer u (view u H) (queries.Search search false) ≡ replies.Found (papers_found u H search)
   pub counted : answer u (view u H) (queries.Search search true) ≡ replies.Count (length (papers_found u H search))
 
+-- SearchTold holds of every caller and every search on every history
 abbrev pub SearchesTold : Type 0
 SearchesTold = (u : Option ℕ) (H : History) (search : List Step) → SearchTold u H search

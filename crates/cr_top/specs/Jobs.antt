@@ -20,6 +20,7 @@ pub record Surroundings (I A B D : Type 0) : Type 0 where
   pub stores : ShelfState
   pub gates : GatesState A B D
 
+-- what contracts see of all that a run works on, by the members of its traits
 abbrev pub around_of : {I O C S G A B D : Type 0} → (I → ℕ) → (O → Option Taken) → (O → ℕ)
     → (C → Option (List ℕ)) → (C → ℕ) → (S → RowsByPath) → (S → ℕ)
     → (G → ℕ) → (G → Option (List (DoorLog A B D))) → (G → Option (List (List ℕ)))
@@ -36,7 +37,7 @@ pub record IsUntouched {I A B D : Type 0} (exit : Exit) (a a' : Surroundings I A
   pub exit_is : exit ≡ exits.OutOfMemory
   pub same : a' ≡ a
 
--- An exit that tells of a fault comes only where the count of what failed rose, or stands at its last value.
+-- an exit that tells of a fault is returned only if the counter of what failed rose, or is at its last value
 pub record IsCounted {I A B D : Type 0} (exit : Exit) (a a' : Surroundings I A B D) : Type 0 where
   pub read : exit ≡ exits.ReadFault → Rises a.outside.read_faults a'.outside.read_faults
   pub write : exit ≡ exits.WriteFault → Rises a.outside.output.faults a'.outside.output.faults
@@ -44,9 +45,9 @@ pub record IsCounted {I A B D : Type 0} (exit : Exit) (a a' : Surroundings I A B
   pub listen : exit ≡ exits.ListenFault → Rises a.gates.faults a'.gates.faults
   pub clock : exit ≡ exits.ClockFault → Rises a.outside.clock.faults a'.outside.clock.faults
 
--- One connection from the empty history on, or from that of a store on; many connections over a store; the view of a
--- store; or a drill. The last three read no input and ask no clock but those that doors give, and all but serving leave
--- the gates alone. A drill has no store.
+-- what the run did, by its job: one connection from the empty history on, or from that of a store; many connections
+-- over a store; the view of a store; or a drill. The last three read no input and ask no clock except those of doors,
+-- and only serving asks the gates. A drill has no store.
 abbrev pub DoesJob : {I K A B D : Type 0} → (List ℕ → Bool) → (List ℕ → Keeping) → (I → Option (List ℕ))
     → (I → I → List ℕ → Type 0) → Streams K A B D
     → NamedJob → Exit → Surroundings I A B D → Surroundings I A B D → Type 0
@@ -66,22 +67,22 @@ DoesJob tells_stops keeps left gives streams (drill_job seed steps) exit a a' =
     TellsDrill seed steps exit a.outside.output a'.outside.output × (a'.stores ≡ a.stores)
     × ReadsNothing a.outside a'.outside × (a'.gates ≡ a.gates)
 
--- the same, unless memory ran out before it began
+-- the run did the job (`DoesJob`), or memory ran out before anything was read or written
 abbrev pub Does : {I K A B D : Type 0} → (List ℕ → Bool) → (List ℕ → Keeping) → (I → Option (List ℕ))
     → (I → I → List ℕ → Type 0) → Streams K A B D
     → NamedJob → Exit → Surroundings I A B D → Surroundings I A B D → Type 0
 Does tells_stops keeps left gives streams job exit a a' =
     IsUntouched exit a a' ⊎ DoesJob tells_stops keeps left gives streams job exit a a'
 
--- a store whose rows are a legal history's, over a shelf of which no call failed
+-- the rows at the path are those of a legal history, over a shelf of which no call failed
 pub record HasHistory (path : List ℕ) (H : History) (s s' : ShelfState) : Type 0 where
   pub legal : Legal H
   pub told : s.rows path ≡ Some (rows_of H)
   pub faultless : Rises s.faults s'.faults → ⊥
 
--- Where nothing fails, all that the input's bytes spell is answered, from the empty history on or from the store's;
--- each door gives its share of connections; the view of the store's history is told whole, or nobody there has the
--- name; and so is the summary of a drill. Memory may be wanting.
+-- if nothing fails, all that the input's bytes spell is answered, from the empty history on or from the store's; each
+-- door serves its share of connections; the view of the store's history is told whole, or no user there has the name;
+-- and the summary of a drill is told. Memory may run out.
 abbrev pub AnswersJob : {I A B D : Type 0} → (I → Option (List ℕ)) → NamedJob → Exit → Surroundings I A B D
     → Surroundings I A B D → Type 0
 AnswersJob left (pipe_job None) exit a a' =

@@ -1,4 +1,5 @@
--- Replay where nothing is lost: what a list of wishes is told, each on the history that the wishes before it left.
+-- What a list of wishes is answered, and where it leads, if nothing is lost: each wish is answered on the history to
+-- which the wishes before it lead.
 use Rattle.std.specs.Prelude.{ℕ, ◌+◌, List, [], ◌∷◌}
 use Rattle.cr_base.specs.History.{History}
 use Rattle.cr_http.specs.Requests.{End, ended_clean, ended_cut, asked, closed}
@@ -10,7 +11,8 @@ use Rattle.cr_wire.specs.Wishes.{closes}
 use Rattle.cr_top.specs.declared.exit.Exit.{Exit}
 use Rattle.cr_top.specs.declared.exit.Exit.TheVariants as exits
 
--- the answers to the wishes, each at its wish's moment; the first is request number n and meets this history
+-- the answers to the wishes, each at its wish's timestamp; the first wish is request number n and is answered on this
+-- history
 abbrev pub told_along : ℕ → History → List Wish → List Answer
 told_along n H [] = []
 told_along n H (w ∷ ws) =
@@ -21,7 +23,7 @@ abbrev pub steps_along : History → List Wish → History
 steps_along H [] = H
 steps_along H (w ∷ ws) = steps_along (after_wish H w) ws
 
--- what is answered behind the last wish, by the end of the text: a refusal at this moment, where it ends by one
+-- what is answered after the last wish, by the end of the text: a refusal at this timestamp, if the text ends by one
 abbrev pub last_words : End → ℕ → List Answer
 last_words ended_clean at = []
 last_words ended_cut at = []

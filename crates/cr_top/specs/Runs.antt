@@ -32,6 +32,7 @@ pub record Outside (I : Type 0) : Type 0 where
   pub output : Outlet
   pub clock : ClockState
 
+-- what contracts see of a run's input, output and clock, by the members of their traits
 abbrev pub outside_of : {I O C : Type 0} → (I → ℕ) → (O → Option Taken) → (O → ℕ) → (C → Option (List ℕ)) → (C → ℕ)
     → I → O → C → Outside I
 outside_of read_faults taken write_faults coming clock_faults input out clock = record {
@@ -41,7 +42,7 @@ outside_of read_faults taken write_faults coming clock_faults input out clock = 
   clock = clock_of coming clock_faults clock;
 }
 
--- what its one connection is answered with
+-- the sink and the clock of the one connection
 abbrev pub desk : {I : Type 0} → Outside I → Desk
 desk o = record { sink = o.output; clock = o.clock }
 
@@ -51,7 +52,7 @@ pub record ReadsNothing {I : Type 0} (o o' : Outside I) : Type 0 where
   pub faults : o'.read_faults ≡ o.read_faults
   pub clock : o'.clock ≡ o.clock
 
--- what a run meets outside, beside a history and its keeper's count of faults
+-- what a run meets outside, with a history and its keeper's fault counter
 abbrev pub world : {I : Type 0} → Outside I → History → ℕ → World Ledger I
 world o H faults = record {
   state = record { history = H; faults = faults };
@@ -66,14 +67,15 @@ world o H faults = record {
 abbrev pub Keeps : Type 1
 Keeps = History → List JudgedWish → Type 0
 
--- what a stop may leave of the keeper of this book since that was opened, and since one connection was served over it
+-- what a stop may leave of the keeper of this book: since the book was opened, and since one connection was served over
+-- it
 abbrev pub KeepsSince : {K : Type 0} → Keepers K → SeenBook K → K → Keeps
 KeepsSince keepers book keeper' history judged =
     KeepsTold keepers book.opened keeper' history
     × KeepsWishesTold keepers book.keeper keeper' book.log history judged
 
 -- From this history on, whose rows the keeper had, a connection was served to its ending, and the keeper was handed
--- back with the rows of the last history, of which something is so besides.
+-- back with the rows of the last history, of which `keeps` holds: what a stop may leave.
 pub record Pipes {K I : Type 0} (rows : K → Option (List Row)) (keeps : Keeps) (faults : K → ℕ)
     (left : I → Option (List ℕ)) (gives : I → I → List ℕ → Type 0) (opening : History) (ending : Ending)
     (keeper keeper' : K) (o o' : Outside I) : Type 0 where
@@ -88,7 +90,8 @@ pub record Pipes {K I : Type 0} (rows : K → Option (List Row)) (keeps : Keeps)
 
 -- ---- the exits
 
--- The same over a keeper that counts no fault, so that nothing is lost: the exit says how the connection ended.
+-- A connection was served to its ending over a keeper in memory, which counts no fault, so that nothing is lost: the
+-- exit says how the connection ended.
 pub record ServesPipe {I : Type 0} (left : I → Option (List ℕ)) (gives : I → I → List ℕ → Type 0)
     (opening : History) (exit : Exit) (o o' : Outside I) : Type 0 where
   pub ending : Ending
@@ -106,7 +109,7 @@ pub record TellsUsage {I : Type 0} (exit : Exit) (o o' : Outside I) : Type 0 whe
   pub written : ((exit ≡ exits.Usage) × Writes usage o.output o'.output)
       ⊎ ((exit ≡ exits.WriteFault) × BreaksOff usage o.output o'.output)
 
--- the summary of a drill was written, or its write broke off; nothing was written, for want of memory
+-- the summary of a drill was written, or its write broke off; or memory ran out, and nothing was written
 abbrev pub TellsDrill : ℕ → ℕ → Exit → Outlet → Outlet → Type 0
 TellsDrill seed steps exits.Done o o' = Writes (summary steps (drilled seed steps)) o o'
 TellsDrill seed steps exits.WriteFault o o' = BreaksOff (summary steps (drilled seed steps)) o o'
@@ -115,7 +118,7 @@ TellsDrill seed steps _ o o' = ⊥
 
 -- ---- nothing fails
 
--- none of the three counts rose
+-- none of the three fault counters rose
 pub record IsFaultless {I : Type 0} (o o' : Outside I) : Type 0 where
   pub read : Rises o.read_faults o'.read_faults → ⊥
   pub written : Rises o.output.faults o'.output.faults → ⊥

@@ -30,6 +30,7 @@ pub record GatesState (I O C : Type 0) : Type 0 where
   pub logs : Option (List (DoorLog I O C))
   pub asked : Option (List (List ℕ))
 
+-- what contracts see of gates, by the members of their trait
 abbrev pub gates_of : {G I O C : Type 0} → (G → ℕ) → (G → Option (List (DoorLog I O C))) → (G → Option (List (List ℕ)))
     → G → GatesState I O C
 gates_of faults logs asked gates = record { faults = faults gates; logs = logs gates; asked = asked gates }
@@ -40,7 +41,7 @@ pub record OpensAt {I O C : Type 0} (listen : List ℕ) (g g' : GatesState I O C
   pub faults : g'.faults ≡ g.faults
   pub logs : g'.logs ≡ g.logs
 
--- the line at the end was written, or its write broke off
+-- the line with the number of entries was written, or its write broke off
 abbrev pub TellsEntries : Bool → ℕ → Outlet → Outlet → Type 0
 TellsEntries true entries o o' = Writes (entries_line entries) o o'
 TellsEntries false entries o o' = BreaksOff (entries_line entries) o o'
@@ -54,12 +55,12 @@ pub record IsNew {I O C : Type 0} (d : SeenDoor I O C) : Type 0 where
   pub faults : d.faults ≡ 0
   pub log : IfSome d.log (λ log. log ≡ unasked)
 
--- the doors of which this is seen are new
+-- each of the doors, by what contracts see of it, is new
 abbrev pub AreNew : {D I O C : Type 0} → (D → SeenDoor I O C) → List D → Type 0
 AreNew seen doors = Every IsNew (map seen doors)
 
--- a door's last answer, by how the workers ended: its share was given; or that, or it
--- failed; or, for lack of memory, any
+-- a door's last answer, by how the workers ended: that its share was given; that, or that it failed; or, if memory ran
+-- out, any
 abbrev pub DoorEndsBy : {I O C : Type 0} → Worked → DoorLog I O C → Type 0
 DoorEndsBy worked.Done log = log.last ≡ Some answers.Done
 DoorEndsBy worked.DoorFailed log = (log.last ≡ Some answers.Done) ⊎ (log.last ≡ Some answers.Failed)
@@ -136,7 +137,8 @@ pub record ServesMany {K I O C : Type 0} (keeps : Keeping) (path : List ℕ) (st
 
 -- ---- no connection was served
 
--- why not, though the store was opened: the gates failed, which was counted; or memory ran out
+-- why no connection was served, by the exit, though the store was opened: the gates failed, which was counted; or
+-- memory ran out
 abbrev pub IsWhyClosed : {I O C : Type 0} → Exit → GatesState I O C → GatesState I O C → Type 0
 IsWhyClosed exits.ListenFault g g' = Rises g.faults g'.faults
 IsWhyClosed exits.OutOfMemory g g' = Unit {0}
@@ -152,7 +154,8 @@ pub record StaysClosed {I O C : Type 0} (listen : List ℕ) (exit : Exit) (s s' 
   pub gates : g.faults ≤ g'.faults
   pub asked : AsksAtMost listen g.asked g'.asked
 
--- a store that doesn't open leaves the gates unasked; and where no connection was served, nothing is written
+-- what serving did: connections were served; or none was, and nothing was written; or the store didn't open, and the
+-- gates weren't asked
 abbrev pub ServesGates : {K I O C : Type 0} → Bool → Keeping → List ℕ → Streams K I O C → List ℕ → ℕ → ℕ → Exit
     → Outlet → Outlet → ShelfState → ShelfState → GatesState I O C → GatesState I O C → Type 0
 ServesGates tells_stops keeps path streams listen workers connections exit o o' s s' g g' =

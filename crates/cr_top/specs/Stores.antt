@@ -34,6 +34,7 @@ pub record ShelfState : Type 0 where
   pub rows : RowsByPath
   pub faults : ℕ
 
+-- what contracts see of a shelf: the rows at each path and its fault counter, by the members of its trait
 abbrev pub state_of : {S : Type 0} → (S → RowsByPath) → (S → ℕ) → S → ShelfState
 state_of rows faults shelf = record { rows = rows shelf; faults = faults shelf }
 
@@ -59,8 +60,8 @@ pub record OpensStore {K : Type 0} (rows : K → Option (List Row)) (faults : K 
   pub fresh : faults book.keeper ≡ 0
   pub same : s' ≡ s
 
--- A book was opened over a keeper that its shelf opened at this moment, and has it still: nothing had been tried with
--- it in vain, its rows, where it tells them, are the history's, and so are those that a stop leaves now.
+-- A book was opened over a keeper that its shelf opened at this moment, and still has it: nothing had been tried with it
+-- in vain, its rows, if it tells them, are the history's, and so are those that a stop leaves now.
 pub record BeginsAt {K : Type 0} (keepers : Keepers K) (opened_at : ℕ) (book : SeenBook K) : Type 0 where
   pub at : opened_at ≡ keepers.moment book.opened
   pub still : book.keeper ≡ book.opened
@@ -84,8 +85,8 @@ IsWhyShut path (exits.BadStore row kind) s s' = IfSome (s.rows path) (λ there. 
 IsWhyShut path exits.OutOfMemory s s' = Unit {0}
 IsWhyShut path _ s s' = ⊥
 
--- The rows are as they were. Of a shelf whose keepers tell what a stop leaves, one that failed may have left a file
--- half made at the path, where there were no rows.
+-- The rows at the path are as they were. If the shelf's keepers tell what a stop leaves and the shelf failed, it may
+-- have left a file half made at the path, where there were no rows.
 abbrev pub StaysThere : Bool → List ℕ → Exit → ShelfState → ShelfState → Type 0
 StaysThere tells_stops path exit s s' =
     KeepsRows s s'
@@ -99,26 +100,26 @@ pub record StaysShut (tells_stops : Bool) (path : List ℕ) (exit : Exit) (s s' 
 
 -- ---- what a run leaves
 
--- The rows of a history stand at the path, where they were told, once its keeper was shut; or, of one that tells what a
--- stop leaves, these and then those of one group that is lost, as `IsLost` says.
+-- Once its keeper was shut, the rows at the path, if they are told, are those of the history; or, if the keeper tells
+-- what a stop leaves, these and then those of one group of which `IsLost` holds.
 abbrev pub StandOrOneMore : Bool → List ℕ → History → (History → Type 0) → ShelfState → ShelfState → Type 0
 StandOrOneMore tells_stops path history IsLost s s' =
     IfSome (s.rows path) (λ before. (s'.rows path ≡ Some (rows_of history))
     ⊎ (IsTrue tells_stops
     × ((group : History) × IsLost group × (s'.rows path ≡ Some (rows_of (history ++ group))))))
 
--- The group of a command or a bulk that is allowed behind a history, over a shelf whose count of faults rose.
+-- The group of a command or a bulk that is allowed on the history, over a shelf whose fault counter rose.
 pub record IsGroupInVain (history : History) (s s' : ShelfState) (group : History) : Type 0 where
   pub adds : AddsOne history group
   pub counted : Rises s.faults s'.faults
 
--- The same with the group of one of these wishes which was answered, on that history, that it wasn't kept.
+-- `StandOrOneMore` with the group of one of these wishes, which was answered, on that history, that it wasn't kept.
 abbrev pub StandOrOneLost : Bool → List ℕ → History → List JudgedWish → ShelfState → ShelfState → Type 0
 StandOrOneLost tells_stops path history judged s s' =
     StandOrOneMore tells_stops path history (IsLostGroup judged history) s s'
 
--- So where the shelf's count doesn't rise, the rows at the path are those of the history. At each other path stands
--- what stood there.
+-- The rows that a run leaves: at the path those of the history, or these and one group if the shelf's fault counter
+-- rose (`StandOrOneMore` of `IsGroupInVain`); at each other path those that were there.
 pub record LeavesRows (tells_stops : Bool) (path : List ℕ) (history : History) (s s' : ShelfState) : Type 0 where
   pub there : StandOrOneMore tells_stops path history (IsGroupInVain history s s') s s'
   pub others : KeepsOthers path s s'
@@ -130,9 +131,9 @@ abbrev pub CrashKeepsGroups : Bool → (List ℕ → List Row → Type 0) → (L
 CrashKeepsGroups tells opens left opening history =
     IsTrue tells → (image : List ℕ) → left image → OpensAmid opens (Some (rows_of opening)) history image
 
--- And where these are the wishes of its one connection: to the rows of the opening history, then of the groups that
--- some first of them added, and then of one more at most, which one of them drew there that was answered that it wasn't
--- kept.
+-- `CrashKeepsGroups`, if these are the wishes of the run's one connection: what a stop might have left opens to the
+-- rows of the opening history, then of the groups that some first of the wishes added, and then of at most one more
+-- group, which one of the wishes drew there that was answered that it wasn't kept.
 abbrev pub CrashKeepsWishes : Bool → (List ℕ → List Row → Type 0) → (List ℕ → Type 0) → History → List JudgedWish
     → Type 0
 CrashKeepsWishes tells opens left opening judged =
@@ -145,21 +146,21 @@ pub record KeepsStore (tells_stops : Bool) (opens : List ℕ → List Row → Ty
   pub kept : LeavesRows tells_stops path history s s'
   pub stops : CrashKeepsGroups tells_stops opens (left path) opening history
 
--- The same by the wishes of its one connection: a group behind the rows is that of one of them which was answered, on
--- the last history, that it wasn't kept.
+-- `KeepsStore` by the wishes of the run's one connection: a group after the rows is that of one of these wishes, which
+-- was answered, on the last history, that it wasn't kept.
 pub record KeepsWishesThere (tells_stops : Bool) (opens : List ℕ → List Row → Type 0) (left : List ℕ → List ℕ → Type 0)
     (path : List ℕ) (opening history : History) (judged : List JudgedWish) (s s' : ShelfState) : Type 0 where
   pub there : StandOrOneLost tells_stops path history judged s s'
   pub stops : CrashKeepsWishes tells_stops opens (left path) opening judged
 
--- what a run keeps from an opening history to its last, between two states of a shelf; that by the wishes of one
--- connection; and what stands behind the last history, by the wishes of many
+-- what a run keeps of a store from its opening history to its last, between two states of a shelf: whatever the run;
+-- by the wishes of its one connection; and what may follow the last history's rows, by the wishes of many connections
 pub record Keeping : Type 1 where
   pub store : History → History → ShelfState → ShelfState → Type 0
   pub wishes : History → History → List JudgedWish → ShelfState → ShelfState → Type 0
   pub behind : History → List JudgedWish → ShelfState → ShelfState → Type 0
 
--- at each path, by whether its keepers tell what a stop may leave
+-- what a run keeps at each path, by whether the path's keepers tell what a stop may leave
 abbrev pub keeping_of : (List ℕ → Bool) → (List ℕ → List Row → Type 0) → (List ℕ → List ℕ → Type 0) → List ℕ → Keeping
 keeping_of tells_stops opens left path = record {
   store = KeepsStore (tells_stops path) opens left path;
@@ -204,8 +205,8 @@ PipesStore tells_stops keeps path left gives exit o o' s s' =
 
 -- ---- a view of a store
 
--- What was told of a user's view of a history, by the exit: all its lines; a part of them, behind which a write failed
--- or memory ran out; or that nobody has registered the name.
+-- What was told of a user's view of a history, by the exit: all its lines; a part of them, after which a write failed or
+-- memory ran out; or that no user has registered the name.
 abbrev pub TellsView : History → List ℕ → Exit → Outlet → Outlet → Type 0
 TellsView H name exits.Done s s' =
     (user : ℕ) × (number_of name H ≡ Some user) × Writes (lines_text (view (Some user) H)) s s'
@@ -230,6 +231,6 @@ abbrev pub TellsStore : Bool → List ℕ → List ℕ → Exit → Outlet → O
 TellsStore tells_stops path name exit o o' s s' =
     (StaysShut tells_stops path exit s s' × (o' ≡ o)) ⊎ ViewsStore path name exit o o' s s'
 
--- where nothing fails, a legal history's view is told whole, or nobody there has the name
+-- if nothing fails, a legal history's view is told whole, or no user there has the name
 abbrev pub AnswersView : History → List ℕ → Exit → Outlet → Outlet → Type 0
 AnswersView H name exit o o' = TellsView H name exit o o' × ((exit ≡ exits.Done) ⊎ (exit ≡ exits.NoUser))

@@ -5,6 +5,7 @@ use Rattle.clap.specs.Words.{Text, fault_of, takes}
 use Rattle.cr_words.specs.Words.{confd_words}
 use Rattle.cr_words.specs.Job.{NamedJob, job_of}
 
+-- the bytes of each word
 abbrev pub texts : List (String Global) → List Text
 texts words = map string_bytes words
 
@@ -16,7 +17,7 @@ AreTaken words = fault_of confd_words (texts words) ≡ []
 abbrev pub AreRefused : List (String Global) → Type 0
 AreRefused words = fault_of confd_words (texts words) ≢ []
 
--- clap's own test, which holds of words that it takes
+-- clap's own test, which holds of words that clap takes, holds of these
 abbrev pub PassTest : List (String Global) → Type 0
 PassTest words = takes confd_words (texts words) ≡ true
 

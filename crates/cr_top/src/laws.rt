@@ -5,8 +5,8 @@ ghost use Rattle.cr_base.specs.Rows.{rows_of};
 ghost use Rattle.cr_ports.specs.Count.{Rises};
 ghost use Rattle.cr_top.specs.Stores.{LeavesRows, ShelfState};
 
-/// Where the shelf's count of faults didn't rise and isn't at its last value, the rows that a run leaves at its store's
-/// path are those of the last history, all of them and no more, wherever the shelf tells them.
+/// If the shelf's fault counter didn't rise and isn't at its last value, the rows that a run leaves at its store's path
+/// are those of the last history, all of them and no more, if the shelf tells them.
 pub fn law_exact_rows()
     ensures { (tells : Bool) (path : List ℕ) (history : History) (s s' : ShelfState)
         → LeavesRows tells path history s s' → (Rises s.faults s'.faults → ⊥)

@@ -1,5 +1,5 @@
--- Deducible: what a view tells though no part of it says so, of legal histories: numbers count what came before, and an
--- entry that chairs alone make is the chair's, where there has been only one.
+-- Deducible: what a view tells of a legal history though no part of it says so: numbers count what came before, and if
+-- there has been only one chair, an entry that only chairs make is that chair's.
 use Rattle.std.specs.Prelude.{ℕ, ◌≡◌, ◌≤◌, ◌&&◌, length, Option, All, IsTrue}
 use Rattle.std.specs.List.{AllByRecursion}
 use Rattle.cr_base.specs.declared.entry.Entry.{Entry}
@@ -18,7 +18,7 @@ use Rattle.cr_policy.specs.ViewFacts.{is_kind}
 
 -- ---- numbers
 
--- whoever is shown a version's number knows that so many contents were uploaded to the paper
+-- a user who is shown a version's number knows that this many contents were uploaded to the paper
 abbrev pub VersionsTell : Type 0
 VersionsTell = (u : Option ℕ) (p v : ℕ) (H : History) → Legal H
     → All
@@ -43,7 +43,8 @@ CommentNumbersTell = (u : Option ℕ) (p n : ℕ) (H : History) → Legal H
     → n ≤ length (comments_of p H))
     (view u H)
 
--- and a label, that so many were given: also authors, of the labels of forms and of the letters that are left out
+-- a user who is shown a label knows that this many labels were given: also authors, by the labels of forms, and by the
+-- letters that are left out
 abbrev pub LabelsTell : Type 0
 LabelsTell = (u : Option ℕ) (p o : ℕ) (H : History) → Legal H
     → All (λ (s : Sighting). IsTrue (is_number s.paper p && is_number s.ordinal o)
@@ -56,7 +57,7 @@ abbrev pub NamesNoOther : ℕ → Entry → Type 0
 NamesNoOther c (Named user Chair) = user ≡ c
 NamesNoOther c e = Unit {0}
 
--- chairs alone make such an entry
+-- only chairs make such an entry
 abbrev pub IsOfChairs : Entry → Type 0
 IsOfChairs (PhaseSet phase) = Unit {0}
 IsOfChairs (ModeSet mode) = Unit {0}
@@ -69,7 +70,8 @@ IsOfChairs (Invited paper user) = Unit {0}
 IsOfChairs (Uninvited paper user) = Unit {0}
 IsOfChairs e = ⊥
 
--- where no other was ever named, which everyone is shown, all of these are hers, though nobody is shown who made them
+-- if no other chair was ever appointed, which everyone is shown, all such entries are the one chair's, though no user
+-- is shown who made them
 abbrev pub OneChairActs : Type 0
 OneChairActs = (c : ℕ) (H : History) → Legal H → AllByRecursion (λ (e : Stamped). NamesNoOther c e.entry) H
     → AllByRecursion (λ (e : Stamped). IsOfChairs e.entry → e.stamp.maker ≡ c) H

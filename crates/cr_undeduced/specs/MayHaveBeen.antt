@@ -1,4 +1,4 @@
--- MayHaveBeen: what may have happened besides, and what happened later is legal all the same.
+-- MayHaveBeen: entries that may have been made besides, or not been made, while all later entries stay legal.
 use Rattle.std.specs.Prelude.{ℕ, ◌≡◌, List, [], ◌∷◌, ◌++◌, Option, None, IsFalse}
 use Rattle.std.specs.List.{AllByRecursion}
 use Rattle.cr_base.specs.declared.entry.Entry.{Entry}
@@ -18,31 +18,32 @@ IsUnread (Tagged paper tag on) = Unit {0}
 IsUnread (Decided paper decision) = Unit {0}
 IsUnread _ = ⊥
 
--- and its command had no number
+-- no rule reads what the entry tells, nor how many such entries there are, and its command had no number
 pub record IsBeside (e : Stamped) : Type 0 where
   pub unread : IsUnread e.entry
   pub unnumbered : e.stamp.key ≡ None
 
--- Inserted: where such entries would have been accepted, they may stand: all that followed stays legal
+-- Inserted: where such entries would have been accepted they may be inserted: the history stays legal
 abbrev pub Inserted : Type 0
 Inserted = (before besides after : History) (moves : List Move) → Legal before
     → LeadsTo before moves (before ++ after) → AllByRecursion IsBeside besides → Legal (before ++ besides)
     → Legal ((before ++ besides) ++ after)
 
--- LeftOut: and where they stand they may be left out
+-- LeftOut: such entries may be left out of a legal history: it stays legal
 abbrev pub LeftOut : Type 0
 LeftOut = (before besides after : History) (moves : List Move) → Legal before
     → LeadsTo (before ++ besides) moves ((before ++ besides) ++ after) → AllByRecursion IsBeside besides
     → Legal (before ++ besides) → Legal (before ++ after)
 
--- the user is told of none of these entries, which stand behind `before` and before `after`, at the end of the history
+-- at the end of the history the user is told of none of these entries, which are between `before` and `after`
 abbrev pub IsToldOfNone : Option ℕ → History → History → History → History → Type 0
 IsToldOfNone u H before [] after = Unit {0}
 IsToldOfNone u H before (e ∷ besides) after =
     IsFalse (is_told u H before (besides ++ after) e.stamp.maker e.entry)
     × IsToldOfNone u H (before ++ e ∷ []) besides after
 
--- BesidesUnseen: who is told of none of them sees the same with them and without, where the same papers are accepted
+-- BesidesUnseen: a user who is told of none of the entries sees the same with them and without, if the accepted papers
+-- are the same
 abbrev pub BesidesUnseen : Type 0
 BesidesUnseen = (u : Option ℕ) (before besides after : History) → AllByRecursion IsBeside besides
     → IsToldOfNone u ((before ++ besides) ++ after) before besides after

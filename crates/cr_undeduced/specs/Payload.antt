@@ -1,4 +1,4 @@
--- Payload: what an entry may tell that no rule reads, and an entry in which some of it is otherwise.
+-- Payload: what an entry may tell that no rule reads, and the entry with other values of some of it.
 use Rattle.std.specs.Prelude.{ℕ, Bool, ◌≡◌, ◌≤◌, ◌||◌, ◌&&◌, not, suc, List, [], ◌∷◌, length, Option, IsTrue}
 use Rattle.std.specs.Prelude.{if◌then◌else◌}
 use Rattle.cr_base.specs.declared.entry.Entry.{Entry}
@@ -16,9 +16,9 @@ use Rattle.cr_base.specs.TagTexts.{is_tag}
 use Rattle.cr_base.specs.Texts.{IsTitle, IsAbstract, IsContent, IsCommentText}
 use Rattle.cr_bounds.specs.ShownTo.{is_committees, is_chairs}
 
--- one of each, of which an entry takes those that its kind has: the digest of a secret, a paper's texts, a content, the
--- value of a bid, what a reviewer is to a paper, a form, the text of a comment or a response, a tag, whether it is on,
--- and a decision; and a moment, and the number and mark of a command, where it has them
+-- one value of each sort, of which an entry takes those that its kind has: the digest of a secret, a paper's texts, a
+-- content, a bid, the kind of a reviewer, a form, the text of a comment or a response, a tag, whether it is on, and a
+-- decision; and a timestamp, and the number and the mark of a command, or none
 pub record Payload : Type 0 where
   pub digest : List ℕ
   pub title : List ℕ
@@ -74,13 +74,13 @@ own_if known own other = if known then own else other
 abbrev pub agree : Bool → Bool → Bool
 agree a b = if a then b else not b
 
--- the two tags are for the same: for the committee, for chairs, or for whoever sets them
+-- the two tags are for the same users: the committee, the chairs, or the one who sets them
 abbrev pub are_for_same : List ℕ → List ℕ → Bool
 are_for_same tag other = agree (is_committees tag) (is_committees other) && agree (is_chairs tag) (is_chairs other)
 
--- the entry with the other payload in place of its own, but for what is known; a tag stays, too, where the other is for
--- others. Its paper, its users, labels, numbers and names are its own, and so is whether a conflict is on, which rules
--- read
+-- the entry with the payload's values in place of its own, except in what is known. A tag stays too, if the payload's
+-- is for others. Its paper, users, labels, numbers and names are its own, and whether a conflict is on, which rules
+-- read.
 abbrev pub with_other : Known → Payload → Entry → Entry
 with_other known x (Registered user name digest) = Registered user name (own_if known.digest digest x.digest)
 with_other known x (Submitted paper title abstract) =
@@ -112,7 +112,7 @@ abbrev pub IsNoLonger : Payload → Entry → Type 0
 IsNoLonger x (Uploaded paper version content) = length x.content ≤ length content
 IsNoLonger x e = Unit {0}
 
--- so it is of each entry of the history, the first with the first of the payloads
+-- no content of these payloads is longer than that of the entry at its place
 abbrev pub NoneLonger : (ℕ → Payload) → History → Type 0
 NoneLonger xs [] = Unit {0}
 NoneLonger xs (e ∷ H) = IsNoLonger (xs 0) e.entry × NoneLonger (λ n. xs (suc n)) H

@@ -1,6 +1,6 @@
--- Undeducible: of what none of a group was shown whenever they looked, nothing can be ruled out, by all that they saw
--- together (nondeducibility: Sutherland, NCSC 1986; with a bound on what may be learnt: Kanav, Lammich and Popescu, CAV
--- 2014). What somebody is shown is said in the words of the bounds (ShownTo), not in those of the trigger table.
+-- Undeducible: a group of users can rule out no value of what none of them was shown whenever they looked, by all that
+-- they saw together (nondeducibility: Sutherland, NCSC 1986; with a bound on what may be learnt: Kanav, Lammich and
+-- Popescu, CAV 2014). What a user is shown is said by the bounds (ShownTo), not by the trigger table.
 use Rattle.std.specs.Prelude.{ℕ, Bool, ◌≡◌, ◌≤◌, ◌||◌, ◌&&◌, not, false, suc, List, [], ◌∷◌, ◌++◌, length, map, take}
 use Rattle.std.specs.Prelude.{Option, Some, None, is_some}
 use Rattle.std.specs.List.{list_any, Contains}
@@ -20,52 +20,58 @@ use Rattle.cr_undeduced.specs.Payload.{Payload, IsBoundedPayload, Known, with_ot
 
 -- ---- looks
 
--- a user, or an unauthenticated caller, looks when so many entries stand there
+-- a user, or an unauthenticated caller, looks when the history has this many entries
 pub record Look : Type 0 where
   pub who : Option ℕ
   pub upto : ℕ
 
--- while the history is gone through: who looked, what stood there then, and what of it is still ahead
+-- a look, while the history is gone through entry by entry: who looked, the history that was there when they did, and
+-- those of its entries that are still to come
 pub record Looking : Type 0 where
   pub who : Option ℕ
   pub stood : History
   pub ahead : History
 
+-- a look before the first entry of this history
 abbrev pub looking_at : History → Look → Looking
 looking_at H look = record { who = look.who; stood = take look.upto H; ahead = take look.upto H }
 
--- what stands behind the first entry
+-- the entries after the first
 abbrev pub behind_first : History → History
 behind_first [] = []
 behind_first (e ∷ later) = later
 
+-- a look after one entry more
 abbrev pub past_one : Looking → Looking
 past_one look = record look { ahead = behind_first look.ahead }
 
--- ---- what is known of an entry that stands behind these
+-- ---- what is known of an entry
 
--- she was told the part, when she looked; of an entry that wasn't there yet nothing
+-- the user was told this part of the entry, which comes after `before`, when they looked; of an entry that wasn't there
+-- yet they were told nothing
 abbrev pub was_told : {A : Type 0} → PartFor (Option A) → History → Stamped → Option ℕ → History → History → Bool
 was_told part before e u stood [] = false
 was_told part before e u stood (own ∷ later) =
     is_told u stood before later e.stamp.maker e.entry && is_some (part u stood before later e.stamp e.entry)
 
+-- one of those who looked was told this part of the entry
 abbrev pub any_told : {A : Type 0} → PartFor (Option A) → List Looking → History → Stamped → Bool
 any_told part looks before e =
     list_any (λ (look : Looking). was_told part before e look.who look.stood look.ahead) looks
 
--- the entry decides on a paper for good: at the notification or later it was the last decision on it, when somebody
--- looked, and everyone is shown whether the paper is accepted
+-- the entry was the last decision on its paper when somebody looked at the notification or later: then everyone is
+-- shown whether the paper is accepted
 abbrev pub was_final : Entry → History → History → Bool
 was_final (Decided paper decision) stood [] = false
 was_final (Decided paper decision) stood (own ∷ later) =
     is_past_discussion (phase_of stood) && not (is_decided_again paper later)
 was_final e stood ahead = false
 
+-- the entry was final (`was_final`) when one of them looked
 abbrev pub any_final : List Looking → Entry → Bool
 any_final looks e = list_any (λ (look : Looking). was_final e look.stood look.ahead) looks
 
--- known is what one of them was told, and which decision is for good
+-- what is known of an entry: each part that one of those who looked was told, and a decision that was final
 abbrev pub known_of : List Looking → History → Stamped → Known
 known_of looks before e = record {
   digest = any_told digest_for looks before e;
@@ -86,14 +92,15 @@ known_of looks before e = record {
 
 -- ---- the other history
 
--- what stands behind `before`, with other payloads, one for each place, but for what is known
+-- the later entries with other payloads, one for each place, except in what is known; `before` are the entries before
+-- these
 abbrev pub others_behind : List Looking → History → (ℕ → Payload) → History → History
 others_behind looks before xs [] = []
 others_behind looks before xs (e ∷ later) =
     stamped e.stamp e.more (with_other (known_of looks before e) (xs 0) e.entry)
     ∷ others_behind (map past_one looks) (before ++ e ∷ []) (λ n. xs (suc n)) later
 
--- the history with other values of all that was hidden from whoever looked, whenever she did: of all of it at once
+-- the history with other values of all that was hidden from those who looked, whenever they did, all at once
 abbrev pub with_values : List Look → (ℕ → Payload) → History → History
 with_values looks xs H = others_behind (map (looking_at H) looks) [] xs H
 
@@ -101,27 +108,28 @@ with_values looks xs H = others_behind (map (looking_at H) looks) [] xs H
 abbrev pub who_looked : List Look → List (Option ℕ)
 who_looked looks = map (λ (look : Look). look.who) looks
 
--- and with other moments, numbers and marks, too, of what none of them made
+-- the history with other values of all that was hidden from those who looked, and with other timestamps, numbers and
+-- marks of what none of them made
 abbrev pub otherwise : List Look → (ℕ → Payload) → History → History
 otherwise looks xs H = with_stamps (who_looked looks) None xs (with_values looks xs H)
 
--- what somebody sees when she looks
+-- the view of the user who looks, of the entries that were there then
 abbrev pub seen_at : History → Look → View
 seen_at H look = view look.who (take look.upto H)
 
 -- ---- the clauses
 
--- nobody has uploaded more than 64 MiB
+-- no user has uploaded more than 64 MiB
 abbrev pub IsWithinQuota : History → Type 0
 IsWithinQuota H = (user : ℕ) → own_bytes_of (Some user) H ≤ 67108864
 
--- OthersLegal: whatever the other values are, within the bounds of commands: the other history of a legal one is
--- legal, where its stamps are such as these commands might have had, and nobody has uploaded too much in it
+-- OthersLegal: whatever the other values are, within the bounds of commands, the other history of a legal one is legal,
+-- if its stamps are such as these commands might have had (`StampsFit`) and no user has uploaded too much in it
 abbrev pub OthersLegal : Type 0
 OthersLegal = (looks : List Look) (xs : ℕ → Payload) (H : History) → Legal H → ((n : ℕ) → IsBoundedPayload (xs n))
     → StampsFit (otherwise looks xs H) H → IsWithinQuota (otherwise looks xs H) → Legal (otherwise looks xs H)
 
--- ShorterLegal: and it is so where no content is longer than the one whose place it takes
+-- ShorterLegal: the other history of a legal one is legal, if no content is longer than the one whose place it takes
 abbrev pub ShorterLegal : Type 0
 ShorterLegal = (looks : List Look) (xs : ℕ → Payload) (H : History) → Legal H → ((n : ℕ) → IsBoundedPayload (xs n))
     → StampsFit (otherwise looks xs H) H → NoneLonger xs H → Legal (otherwise looks xs H)
@@ -135,7 +143,7 @@ LooksAlike = (looks : List Look) (xs : ℕ → Payload) (H : History) (look : Lo
 abbrev pub all_at_end : List (Option ℕ) → History → List Look
 all_at_end group H = map (λ u. record { who = u; upto = length H }) group
 
--- GroupAlike: so each of a group who look at the end sees the same view
+-- GroupAlike: each of a group who look at the end sees the same of both histories
 abbrev pub GroupAlike : Type 0
 GroupAlike = (group : List (Option ℕ)) (xs : ℕ → Payload) (H : History) (u : Option ℕ) → Contains group u
     → view u H ≡ view u (otherwise (all_at_end group H) xs H)

@@ -5,7 +5,7 @@ use Rattle.cr_base.specs.Answering.{accepted_paper}
 use Rattle.cr_base.specs.Sources.{facts_of_tables, shown_in_tables, is_accepted_in}
 use Rattle.cr_base.specs.Tables.{Tables}
 
--- of those of these papers that are accepted
+-- what everyone is told of those of these papers that are accepted
 abbrev pub accepted_of : Tables → List ℕ → List AcceptedPaper
 accepted_of t papers =
     map (accepted_paper (facts_of_tables t None) (shown_in_tables t)) (filter (is_accepted_in t) papers)

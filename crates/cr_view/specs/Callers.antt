@@ -1,11 +1,10 @@
--- Whose a query is.
+-- Which callers may ask which queries here.
 use Rattle.std.specs.Prelude.{ℕ, Option, IsSome}
 use Rattle.cr_base.specs.declared.command.Query.{Query}
 use Rattle.cr_base.specs.declared.command.Query.TheVariants as queries
 
--- there is a caller, where the query is about herself, and it is no search, no report and no plan, which aren't
--- answered here: that nobody may ask for what is told of a paper is no concern of the tables, which answer it for
--- anybody
+-- a query about the caller has one, and the query is no search, no report and no plan, which aren't answered here. Of
+-- what is told of a paper the tables answer any caller: that it requires authentication is decided before.
 abbrev pub HasAsker : Option ℕ → Query → Type 0
 HasAsker caller queries.Me = IsSome caller
 HasAsker caller queries.Accounts = Unit {0}

@@ -18,21 +18,22 @@ use Rattle.cr_base.specs.Ties.{authors_in}
 use Rattle.cr_view.specs.Comments.{comments_at}
 use Rattle.cr_view.specs.Reviews.{reviews_at}
 
--- there is a list, and something in it
+-- there is a list, and it isn't empty
 abbrev pub tells_some : {A : Type 0} → Option (List A) → Bool
 tells_some told = option_map_or (λ xs. not (is_nothing xs)) told false
 
--- the names of a paper's authors, where they are told, to one who stands so to it; it is accepted or isn't
+-- the names of a paper's authors, if a caller with this standing at it is told them; the `Bool` says whether the paper
+-- is accepted
 abbrev pub authors_named : Tables → Standing → Bool → ℕ → List (List ℕ)
 authors_named t by accepted p =
     unwrap_or (where_told (shows_author by accepted) (Some (names_in (lines_of t.accounts) (authors_in t.ties p)))) []
 
--- something is written under one of the first labels
+-- this holds of one of the first labels
 abbrev pub some_label : (ℕ → Bool) → ℕ → Bool
 some_label written zero = false
 some_label written (suc n) = some_label written n || written (suc n)
 
--- the reviews, and the comments, that a user is answered who stands so to a paper: none where a rule is broken
+-- the reviews that a user with this standing at the paper is answered; none if a rule is broken
 abbrev pub reviews_told : Tables → Option ℕ → Standing → ℕ → List ReviewLine
 reviews_told t user by p =
     let there = has_paper (facts_of_tables t None) (Some p) in
@@ -40,13 +41,14 @@ reviews_told t user by p =
     (reply_or_rule
     (judged (reviews_checks by t.stage.had_response (of_there there)) (replies.Reviews (reviews_at t user by p))))
 
+-- the comments that a user with this standing at the paper is answered; none if a rule is broken
 abbrev pub comments_told : Tables → Standing → ℕ → List CommentLine
 comments_told t by p =
     let there = has_paper (facts_of_tables t None) (Some p) in
     comments_answered
     (reply_or_rule (judged (comments_checks by (of_there there)) (replies.Comments (comments_at t None by p))))
 
--- whether she is answered what its authors responded
+-- a user with this standing at the paper is answered its authors' response
 abbrev pub response_told : Tables → Standing → ℕ → Bool
 response_told t by p =
     let there = has_paper (facts_of_tables t None) (Some p) in

@@ -1,4 +1,4 @@
--- What is read of a paper for a caller, and of the lists that its page tells: each once.
+-- What is read of a paper and of the lists that its page tells, for a caller: each once.
 use Rattle.std.specs.Prelude.{ℕ, Bool, false, ◌≡◌, ◌+◌, ◌*◌, List, length, Option}
 use Rattle.std.specs.Prelude.{Some, unwrap_or, is_some, if◌then◌else◌}
 use Rattle.std.specs.Option.{option_map, option_map_or}
@@ -34,7 +34,7 @@ use Rattle.cr_view.specs.Replies.{bidders_of, reviewers_of, versions_at}
 
 -- ---- what is asked of one paper for one caller
 
--- what a user, or nobody, is to it
+-- what a user, or an unauthenticated caller, is to the paper
 abbrev pub tie_at : Tables → Option ℕ → ℕ → PaperTie
 tie_at t user p = record {
   author = is_author_in t.ties user p;
@@ -43,7 +43,7 @@ tie_at t user p = record {
   external = is_external_in t user p;
 }
 
--- how a user stands who has this tie to it
+-- the standing of a user who is this to the paper
 abbrev pub stance_at : Tables → Option ℕ → PaperTie → Standing
 stance_at t user tie = record {
   phase = t.stage.phase;
@@ -55,8 +55,8 @@ stance_at t user tie = record {
   external = tie.external;
 }
 
--- its number; how she stands to it; the ordinal under which she reviews it; the last decision on it; and what is kept
--- of it, where it is there
+-- what is read of a paper: its number, the caller's standing at it, the ordinal under which the caller reviews it, the
+-- last decision on it, and what is kept of it, if it is there
 pub record PaperSeen : Type 0 where
   pub paper : ℕ
   pub by : Standing
@@ -64,6 +64,7 @@ pub record PaperSeen : Type 0 where
   pub decision : Option Decision
   pub kept : Option Paper
 
+-- what is read of the paper for a user
 abbrev pub paper_seen_at : Tables → Option ℕ → ℕ → PaperSeen
 paper_seen_at t user p = record {
   paper = p;
@@ -73,40 +74,44 @@ paper_seen_at t user p = record {
   kept = numbered t.papers.papers p;
 }
 
--- what follows from it: the texts, whether it is withdrawn, and accepted, and the decision as everyone is told it
+-- the paper's title
 abbrev pub title_seen : PaperSeen → Option (List ℕ)
 title_seen s = option_map (λ (paper : Paper). paper.title) s.kept
 
+-- the paper's abstract
 abbrev pub abstract_seen : PaperSeen → Option (List ℕ)
 abstract_seen s = option_map (λ (paper : Paper). paper.abstract_) s.kept
 
+-- the paper is withdrawn
 abbrev pub withdrawn_seen : PaperSeen → Bool
 withdrawn_seen s = option_map_or (λ (paper : Paper). paper.withdrawn) s.kept false
 
+-- the paper is accepted
 abbrev pub accepted_seen : PaperSeen → Bool
 accepted_seen s = is_accepted_when s.by.phase (withdrawn_seen s) s.decision
 
+-- the decision on the paper: to accept it, if it is accepted; else the last one
 abbrev pub decision_seen : PaperSeen → Option Decision
 decision_seen s = if accepted_seen s then Some Accept else s.decision
 
 -- ---- what its page tells of lists
 
--- the seats of a paper that nobody has left, and a flag for each label under which a form is written
+-- the seats of a paper that aren't left, and a flag for each label: whether a form is written under it
 pub record SeatsSeen : Type 0 where
   pub seats : List SeatTold
   pub flags : List Bool
 
--- the reviewers who have them, as one who stands so to the paper is told of them
+-- the reviewers who have these seats, as a caller with this standing at the paper is told them
 abbrev pub reviewers_read : Tables → Standing → SeatsSeen → List Reviewer
 reviewers_read t by read = reviewers_of t by (has_label read.flags) read.seats
 
--- the reviewers that she is told, where she is
+-- the paper's reviewers, if the caller is told them
 abbrev pub reviewers_told : Tables → PaperSeen → Option (List Reviewer)
 reviewers_told t s = where_told (gets_reviewers s.by)
     (Some (reviewers_of t s.by (is_written_in t.reviews s.paper) (reviewers_in t.seats s.paper)))
 
--- its authors, who is declared in conflict with it and whom its authors declared, by number; the last bids on it, and
--- her own; and its reviewers: each where it is told
+-- what is read of the lists of a paper: its authors, who is declared in conflict with it, whom its authors declared,
+-- all by number; the last bids on it, the caller's own, and its reviewers; each if the caller is told it
 pub record ListsSeen : Type 0 where
   pub authors : Option (List ℕ)
   pub conflicts : Option (List ℕ)
@@ -115,7 +120,7 @@ pub record ListsSeen : Type 0 where
   pub bids : Option (List BidTold)
   pub reviewers : Option SeatsSeen
 
--- all of these but the reviewers, with these for them
+-- what is read of the lists of the paper for a user, with these seats for the reviewers
 abbrev pub lists_seen_at : Tables → Option ℕ → PaperSeen → Option SeatsSeen → ListsSeen
 lists_seen_at t user s reviewers = record {
   authors = where_told (shows_author s.by (accepted_seen s)) (Some (authors_in t.ties s.paper));
@@ -126,7 +131,7 @@ lists_seen_at t user s reviewers = record {
   reviewers = reviewers;
 }
 
--- the page, of what is seen of the paper and of its lists, the versions and the tags that are told
+-- the paper's page for a user, by what is read of the paper
 abbrev pub page_seen : Tables → Option ℕ → PaperSeen → Page
 page_seen t user s = page_of s.by (accepted_seen s) s.paper (record {
   title = title_seen s;
@@ -144,7 +149,7 @@ page_seen t user s = page_of s.by (accepted_seen s) s.paper (record {
   withdrawn = withdrawn_seen s;
 })
 
--- the same, of these lists, versions and tags as they are told
+-- the paper's page, by what is read of the paper and of its lists, with the versions and the tags that are told
 abbrev pub page_listed : Tables → PaperSeen → ListsSeen → Option (List ℕ) → Option (List (List ℕ)) → Page
 page_listed t s lists versions tags = record {
   paper = s.paper;
@@ -166,7 +171,7 @@ page_listed t s lists versions tags = record {
 
 -- ---- how many records are read
 
--- of the paper's own: for what a caller is to it; for the facts; and for the lists that its page tells
+-- how many of the paper's records are read for what a caller is to it
 abbrev pub tie_reads : Tables → ℕ → ℕ
 tie_reads t p =
     length (authors_in t.ties p)
@@ -174,12 +179,15 @@ tie_reads t p =
     + length (ties_of ByPaper p t.seats)
     + length (users_tied_to p t.invites)
 
+-- how many of the paper's records are read for its facts
 abbrev pub facts_reads : Tables → ℕ → ℕ
 facts_reads t p = tie_reads t p + 4
 
+-- how many of the paper's records are read for the caller's bid
 abbrev pub bid_reads : Tables → ℕ → ℕ
 bid_reads t p = length (bids_in t.ties p)
 
+-- how many of the paper's records are read for the lists that its page tells
 abbrev pub list_reads : Tables → Standing → ℕ → ℕ
 list_reads t by p =
     length (authors_in t.ties p)
@@ -189,10 +197,12 @@ list_reads t by p =
     + bid_reads t p
     + (length (ties_of ByPaper p t.seats) + length (filed_of p t.reviews.forms))
 
+-- how many of the paper's records are read for its page
 abbrev pub page_reads : Tables → Standing → ℕ → ℕ
 page_reads t by p =
     list_reads t by p + (length (uploads_at t.papers p) + 1) + length (filed_of p t.tags)
 
--- at most twice as many as there are entries on the paper in a history that has these tables, and 16
+-- a page takes at most twice as many steps as there are entries on the paper in a history with these tables, and 16
+-- more
 abbrev pub TakesFew : Tables → ℕ → Option ℕ → Option ℕ → Type 0
 TakesFew t p old new = (h : History) → t ≡ tables_of h → TakesAtMost (2 * entries_on p h + 16) old new

@@ -36,20 +36,21 @@ use Rattle.cr_view.specs.declared.queries.AnswerError.TheVariants as errors
 abbrev pub IsNoRefusal : Reply → Type 0
 IsNoRefusal reply = (rule : Rule) → reply ≢ replies.Refused rule
 
--- A query to which this reply is due was answered so: by that reply, or by the rule that it tells; memory
--- runs out only where it tells none.
+-- a query to which this reply is due was answered by it, or by the rule that it tells; memory ran out only if it tells
+-- none
 abbrev pub AnswersAsDue : Result Reply AnswerError → Reply → Type 0
 AnswersAsDue (Ok reply) due = (reply ≡ due) × IsNoRefusal due
 AnswersAsDue (Err (errors.Rule rule)) due = due ≡ replies.Refused rule
 AnswersAsDue (Err errors.OutOfMemory) due = IsNoRefusal due
 
--- the same, where it may be a plan that is asked for: that there is none takes memory to find
+-- a query to which this reply is due, maybe one for a plan, was answered by it: `AnswersAsDue`, and memory may also run
+-- out if there is no plan, which takes memory to find
 abbrev pub AnswersOrPlans : Result Reply AnswerError → Reply → Type 0
 AnswersOrPlans (Ok reply) due = (reply ≡ due) × IsNoRefusal due
 AnswersOrPlans (Err (errors.Rule rule)) due = due ≡ replies.Refused rule
 AnswersOrPlans (Err errors.OutOfMemory) due = MayTakeMemory due
 
--- the same of a page or a content, which is due or stands behind a rule
+-- a page or a content that is due, or the broken rule, was answered; memory ran out only if no rule is broken
 abbrev pub ShowsAsDue : {A : Type 0} → Result A AnswerError → Result A Rule → Type 0
 ShowsAsDue (Ok shown) due = due ≡ Ok shown
 ShowsAsDue (Err (errors.Rule rule)) due = due ≡ Err rule
@@ -61,19 +62,19 @@ ShowsAsDue (Err errors.OutOfMemory) due = IsOk due
 abbrev pub conference_at : Tables → Conference
 conference_at t = record { mode = t.stage.mode; papers = paper_count t.papers; phase = t.stage.phase }
 
--- how a user stands to the paper of which she asks this, or the first broken rule
+-- the user's standing at the paper of which this query asks, or the first broken rule
 abbrev pub reader_at : (Option ℕ → Query) → Tables → Option ℕ → Option ℕ → Result Standing Rule
 reader_at asked t user paper =
     judged (query_checks (facts_of_tables t user) (shown_in_tables t) (asked paper)) (standing_at t user paper)
 
--- what she is told of it is due to her, or the first broken rule
+-- what a user is told of the paper of which this query asks, or the first broken rule
 abbrev pub due_at : {A : Type 0} → (Option ℕ → Query) → (Facts → Shown → ℕ → A) → Tables → Option ℕ
     → Option ℕ → Result A Rule
 due_at asked told t user paper =
     let facts = facts_of_tables t user in
     judged (query_checks facts (shown_in_tables t) (asked paper)) (told facts (shown_in_tables t) (unwrap_or paper 0))
 
--- the facts that what is told of a paper reads, for a user who stands so to it
+-- the facts that what is told of a paper goes by, for a user with this standing at it
 abbrev pub facts_at : Tables → Option ℕ → Standing → Facts
 facts_at t user by = record {
   standing = λ (paper : Option ℕ). by;
@@ -94,15 +95,16 @@ facts_at t user by = record {
 abbrev pub page_due : Tables → Option ℕ → Option ℕ → Result Page Rule
 page_due t user paper = due_at queries.Page (λ (facts : Facts) (shown : Shown). page_by facts shown user) t user paper
 
--- the versions that authors or others are told of a paper, and the content of the one that is asked for
+-- the versions that authors, or others, are told of a paper
 abbrev pub versions_at : Tables → Bool → ℕ → List ℕ
 versions_at t author p = map (λ (u : Upload). u.version) (uploads_told author (uploads_at t.papers p))
 
+-- the content of this version of a paper, or of its last, if authors, or others, are told it
 abbrev pub content_at : Tables → Bool → ℕ → Option ℕ → Option (List ℕ)
 content_at t author p version =
     option_map (λ (u : Upload). u.content) (upload_of version (uploads_told author (uploads_at t.papers p)))
 
--- how a user stands to the paper of which she may read some content, if there is any, or the first broken rule
+-- the standing of a user at the paper whose content they may read, if there is one, or the first broken rule
 abbrev pub content_reader_at : Tables → Option ℕ → Option ℕ → Result Standing Rule
 content_reader_at t user paper =
     let by = standing_at t user paper in
@@ -110,7 +112,7 @@ content_reader_at t user paper =
     (content_checks by (at_some (is_accepted_in t) paper) (of_there (has_paper (facts_of_tables t user) paper)) true)
     by
 
--- the content that is due to a user, or the first broken rule; and the reply that holds it
+-- the content that is due to a user, or the first broken rule
 abbrev pub content_due : Tables → Option ℕ → Option ℕ → Option ℕ → Result (List ℕ) Rule
 content_due t user paper version =
     let facts = facts_of_tables t user in
@@ -118,37 +120,40 @@ content_due t user paper version =
     (content_asked facts (shown_in_tables t) paper version)
     (unwrap_or (content_by facts (shown_in_tables t) paper version) [])
 
+-- the reply with the content that is due to a user, or with the first broken rule
 abbrev pub content_reply_at : Tables → Option ℕ → Option ℕ → Option ℕ → Reply
 content_reply_at t user paper version =
     let facts = facts_of_tables t user in
     let content = unwrap_or (content_by facts (shown_in_tables t) paper version) [] in
     reply_or_rule (judged (content_asked facts (shown_in_tables t) paper version) (replies.Content content))
 
--- the names of those whom these ties tie
+-- the names of the users of these ties
 abbrev pub names_of : Tables → BareTies → List (List ℕ)
 names_of t ties = names_in (lines_of t.accounts) (map (λ (tie : Tie (Unit {0})). tie.pair.user) ties)
 
--- the bid of a tie; and these bids, each with the name of whose it is
+-- the bid of a tie
 abbrev pub bid_of : Tie ℕ → BidTold
 bid_of tie = record { user = tie.pair.user; value = tie.value }
 
+-- these bids, each with the name of the user who made it
 abbrev pub bidders_of : Tables → List BidTold → List Bidder
 bidders_of t bids = flat_map (λ (bid : BidTold). listed (bidder_told (lines_of t.accounts) bid)) bids
 
--- whoever has these seats and has not left them
+-- those of these seats that aren't left
 abbrev pub seated : List (Tie Seat) → List SeatTold
 seated seats = map told_seat (filter (λ (seat : Tie Seat). not seat.value.vacated) seats)
 
--- reviewers, as one who stands so to their paper is told of them; forms are written under some of their labels
+-- these reviewers, as a caller with this standing at their paper is told them; the function says under which labels
+-- there is a form
 abbrev pub reviewers_of : Tables → Standing → (ℕ → Bool) → List SeatTold → List Reviewer
 reviewers_of t by written seats = map (reviewer_told by (lines_of t.accounts) written) seats
 
--- the name of whoever has this seat, where it is shown and she has not left it; and a reviewer of this
--- name, who has written or hasn't
+-- the name of the user who has this seat, if a caller with this standing is told it and the seat isn't left
 abbrev pub holder_name : Tables → Standing → Tie Seat → Option (List ℕ)
 holder_name t by seat =
     where_told (not seat.value.vacated && shows_reviewer by) (name_in (lines_of t.accounts) seat.pair.user)
 
+-- the reviewer who has this seat, with this name, who has written a form or hasn't; `None` if the seat is left
 abbrev pub reviewer_of : Standing → Tie Seat → Bool → Option (List ℕ) → Option Reviewer
 reviewer_of by seat written name = if seat.value.vacated then None else Some (record {
   done = where_told (is_clear_chair by) (Some written);

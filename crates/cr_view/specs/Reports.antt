@@ -6,10 +6,11 @@ use Rattle.cr_base.specs.Reviews.{forms_discussed_in}
 use Rattle.cr_base.specs.Tables.{Tables}
 use Rattle.cr_view.specs.declared.reports.ScoreSum.{ScoreSum}
 
--- the last form under the paper's label that the committee discusses, and its score as a list
+-- the last form under the paper's label that the committee discusses
 abbrev pub last_discussed : Tables → ℕ → ℕ → Option FormTold
 last_discussed t p o = last (forms_discussed_in t.reviews p o)
 
+-- the score of that form, as a list of at most one
 abbrev pub score_under : Tables → ℕ → ℕ → List ℕ
 score_under t p o = map (λ (form : FormTold). form.score) (listed (last_discussed t p o))
 

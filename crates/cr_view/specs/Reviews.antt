@@ -25,7 +25,7 @@ use Rattle.cr_view.specs.Replies.{facts_at, due_at}
 
 -- ---- under one label
 
--- a form, as it is told under this label
+-- a form, as it is told under this heading
 abbrev pub review_line : Heading → FormTold → ReviewLine
 review_line heading form = record {
   confidence = form.confidence;
@@ -37,42 +37,45 @@ review_line heading form = record {
   version = where_told (not heading.to_author) form.version;
 }
 
--- the form, where it stands under the label and was written in the phase or later; and those of these forms that do
+-- the form, if it is under the label and was written in the phase or later
 abbrev pub form_under : ℕ → Phase → WrittenForm → Option WrittenForm
 form_under label phase written = if written.ordinal == label && is_from phase written.phase then Some written else None
 
+-- those of these forms that are under the label and were written in the phase or later
 abbrev pub forms_under : ℕ → Phase → List WrittenForm → List WrittenForm
 forms_under label phase forms = flat_map (λ (written : WrittenForm). listed (form_under label phase written)) forms
 
--- the name of whoever was assigned to the paper under the label, where it is told
+-- the name of the user who was assigned to the paper under the label, if it is told
 abbrev pub label_name : Tables → Bool → ℕ → ℕ → Option (List ℕ)
 label_name t named p o =
     where_told named (option_and_then (name_in (lines_of t.accounts)) (assigned_under o (seats_in t.seats p)))
 
--- the label, for one who stands so to the paper
+-- how forms under the label are told to a caller with this standing at the paper
 abbrev pub heading_at : Tables → Standing → ℕ → ℕ → Heading
 heading_at t by p o = record { to_author = by.author; label = o; user = label_name t (shows_reviewer by) p o }
 
--- the forms under it that she is told
+-- the forms under the label that a caller with this standing at the paper is told
 abbrev pub forms_shown : Tables → Standing → ℕ → ℕ → List FormTold
 forms_shown t by p o =
     if by.author then listed (authors_form (shown_in_tables t) by p o)
     else forms_discussed_in t.reviews p o
 
+-- the reviews under the label that a caller with this standing at the paper is told
 abbrev pub label_reviews : Tables → Standing → ℕ → ℕ → List ReviewLine
 label_reviews t by p o = map (review_line (heading_at t by p o)) (forms_shown t by p o)
 
 -- ---- all of them
 
--- a reviewer's own forms, without her name
+-- a reviewer's own forms, without the reviewer's name
 abbrev pub own_reviews : Tables → Option ℕ → Standing → ℕ → List ReviewLine
 own_reviews t user by p =
     map (review_line (record { to_author = by.author; label = unwrap_or (ordinal_in t.seats user p) 0; user = None }))
     (own_forms_in t user p)
 
--- the reviews that a user is told who stands so to the paper; and those that are due to her, or the first broken rule
+-- the reviews that a user with this standing at the paper is told
 abbrev pub reviews_at : Tables → Option ℕ → Standing → ℕ → List ReviewLine
 reviews_at t user by p = reviews_by (facts_at t user by) (shown_in_tables t) p
 
+-- the reviews that are due to a user, or the first broken rule
 abbrev pub reviews_due : Tables → Option ℕ → Option ℕ → Result (List ReviewLine) Rule
 reviews_due t user paper = due_at queries.Reviews reviews_by t user paper

@@ -14,7 +14,7 @@ impl Live {
     ///
     /// # Errors
     ///
-    /// The first broken rule of its kind: each that `show`, `content_for`, `reviews_for`, `comments_for`,
+    /// The first broken rule of the query's list: each that `show`, `content_for`, `reviews_for`, `comments_for`,
     /// `response_for`, `may_have` and `may_plan` tell, except `NoPlan`, which takes memory to find.
     ///
     /// # Cost

@@ -241,7 +241,7 @@ impl Live {
     }
 }
 
-/// The tables, lent to a user who judges by them.
+/// The tables, lent to the code that judges by them.
 impl Live {
     /// Returns the table of the phase, the mode and the deadlines.
     pub fn stage_table(&self) -> &Stage

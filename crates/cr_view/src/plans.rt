@@ -60,7 +60,8 @@ impl Live {
     ///
     /// # Errors
     ///
-    /// The first broken rule: `NotChair`, `WrongPhase` and `PlanTooLarge`, but not `NoPlan`, which memory finds.
+    /// The first broken rule: `NotChair`, `WrongPhase` and `PlanTooLarge`, but not `NoPlan`, which takes memory to
+    /// find.
     ///
     /// # Cost
     ///

@@ -125,8 +125,8 @@ impl Live {
     ///
     /// # Errors
     ///
-    /// The first broken rule of its kind; an error for lack of memory only if no rule is broken, and never if the
-    /// state of the conference is asked for.
+    /// The first broken rule of the query's list; an error for lack of memory only if no rule is broken, and never if
+    /// the state of the conference is asked for.
     pub fn answer(
         &self,
         alloc: Global,

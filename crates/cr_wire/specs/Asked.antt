@@ -29,7 +29,7 @@ use Rattle.cr_wire.specs.declared.what.What.{What}
 use Rattle.cr_wire.specs.declared.what.What.TheVariants.{NoRoute, WrongMethod, BadNumber, BadBody}
 use Rattle.cr_wire.specs.declared.what.What.TheVariants.{Command as Commands, Query as Queries, Bulk}
 
--- what a path is found to be, which is text
+-- what a path is found to be; `None` if it isn't UTF-8, or no resource has it
 abbrev pub find_at : List ℕ → Option FoundPath
 find_at path = if is_utf8 path then found_at path else None
 
@@ -47,7 +47,7 @@ abbrev pub tagged : Ask → FoundPath → Option RetryKey → Bool → What
 tagged ask found key on =
     command_of ask key (option_map (λ tag. commands.Tag (paper_of found) tag on) (tag_of found))
 
--- a bulk by this key, where the body spells rows
+-- the wish of a bulk with this key; a bad body if the body spells no rows
 abbrev pub bulk_of : Option RetryKey → Option (List BulkRow) → What
 bulk_of key None = BadBody asks.Bulk
 bulk_of key (Some rows) = Bulk key rows
@@ -96,27 +96,30 @@ asked asks.DecisionsReport found key query body = Queries (queries.Report report
 asked asks.Letter found key query body = Queries (queries.Report (reports.Letter (paper_of found)))
 asked asks.Plan found key query body = plan_in query
 
--- what is asked for by a request that gives its command this number, or none
+-- the wish of a request for this that gives its command this number, or none
 abbrev pub asked_with : Ask → FoundPath → Option ℕ → RequestText → What
 asked_with ask found number r = asked ask found (key_of number r) (query_of r.head.target) r.body
 
--- the same of what the program has
+-- the wish of a request for this, as the program has it
 abbrev pub asked_by : Ask → FoundPath → Numbered → What
 asked_by ask found n = asked_with ask found n.number (request_of n)
 
--- what is asked for, by what the request tells of that number: where it is a bad one, the body isn't looked at
+-- the wish of a request for this, by what it tells of its number; if that is bad, its body isn't read
 abbrev pub with_number : Ask → FoundPath → Result (Option ℕ) BadCommandNumber → RequestText → What
 with_number ask found (Err bad) r = BadNumber ask
 with_number ask found (Ok number) r = asked_with ask found number r
 
+-- the wish of a request on this path, by what its method asks for there; a wrong method if the path doesn't have it
 abbrev pub with_ask : FoundPath → Option Ask → RequestText → What
 with_ask found None r = WrongMethod found.resource
 with_ask found (Some ask) r = with_number ask found (number_for ask r.head.fields) r
 
+-- the wish of a request, by what its path is found to be; no route if there is no such path
 abbrev pub with_found : Option FoundPath → RequestText → What
 with_found None r = NoRoute
 with_found (Some found) r = with_ask found (option_and_then (ask_at found.resource) (method_of r.head.method)) r
 
+-- the wish of a request
 abbrev pub what_of : RequestText → What
 what_of r = with_found (find_at (path_of r.head.target)) r
 
@@ -177,5 +180,6 @@ abbrev pub looks_behind_path : What → Bool
 looks_behind_path (BadNumber ask) = false
 looks_behind_path what = option_map_or (λ ask. ask_has_body ask || ask_has_query ask) (ask_of what) false
 
+-- `looks_behind_path` holds of the wish
 abbrev pub LooksBehindPath : What → Type 0
 LooksBehindPath what = IsTrue (looks_behind_path what)

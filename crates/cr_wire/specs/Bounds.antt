@@ -10,11 +10,12 @@ use Rattle.cr_wire.specs.declared.what.What.{What}
 use Rattle.cr_wire.specs.declared.what.What.TheVariants.{NoRoute, WrongMethod, BadNumber, BadBody, BadQuery}
 use Rattle.cr_wire.specs.declared.what.What.TheVariants.{Command, Query, Bulk}
 
--- a key is within its bounds; where no login is wanted, there is none, since nobody gives any
+-- a key is within its bounds; there is none if authentication isn't required, since only users give any
 abbrev pub IsKeyFor : Bool → Option RetryKey → Type 0
 IsKeyFor false key = key ≡ None
 IsKeyFor true key = IsKeyOrNone key
 
+-- what is wished is within its bounds
 abbrev pub IsBoundedWhat : What → Type 0
 IsBoundedWhat NoRoute = Unit {0}
 IsBoundedWhat (WrongMethod resource) = Unit {0}

@@ -1,5 +1,5 @@
--- Caller: who gives a wish, by a history: who has the name and the secret that the field Authorization tells, where
--- it is read.
+-- Caller: which user gives a wish, by a history: the one with the name and the secret that the field Authorization
+-- tells, if it is read.
 use Rattle.std.specs.Prelude.{ℕ, Bool, false, Option, Some, None, if◌then◌else◌}
 use Rattle.std.specs.Option.{option_map_or}
 use Rattle.cr_base.specs.declared.ask.Ask.{Ask}
@@ -13,7 +13,7 @@ use Rattle.cr_wire.specs.declared.what.What.TheVariants.{NoRoute, WrongMethod, B
 use Rattle.cr_wire.specs.declared.what.What.TheVariants.{Command as Commands, Query as Queries, Bulk}
 use Rattle.cr_wire.specs.declared.what.Wish.{Wish}
 
--- what a wish's request asks for; None where it is no request of the server's
+-- what a wish's request asks for; `None` if it is no request of the server's
 abbrev pub ask_of : What → Option Ask
 ask_of NoRoute = None
 ask_of (WrongMethod resource) = None
@@ -39,6 +39,6 @@ abbrev pub user_told : Option Credentials → History → Option ℕ
 user_told None H = None
 user_told (Some c) H = caller_of c.name c.digest H
 
--- nobody, where the field is not read
+-- the caller of a wish; unauthenticated if the field isn't read
 abbrev pub caller : History → Wish → Option ℕ
 caller H w = if reads_credentials w.what then user_told w.credentials H else None

@@ -24,8 +24,8 @@ is_command_number value = nat_le (length value) 18 && is_number value
 abbrev pub number_of : List ℕ → Result (Option ℕ) BadCommandNumber
 number_of value = if is_command_number value then Ok (Some (digits_value 10 value)) else Err (record {})
 
--- by the values of the fields Command-Number, without the spaces and tabs around each: there is none, or one that is a
--- number; all else is bad
+-- the number that the values of the fields Command-Number tell, without the spaces and tabs around each: none if there
+-- is no value, a number if there is one value and it is a number; else it is bad
 abbrev pub number_by : List (List ℕ) → Result (Option ℕ) BadCommandNumber
 number_by [] = Ok None
 number_by (value ∷ []) = number_of value
@@ -87,13 +87,14 @@ abbrev pub key_with : RequestText → ℕ → RetryKey
 key_with r number =
     record { number = number; mark = mark_of r.head.method (path_of r.head.target) r.body }
 
--- where there is one
+-- the key that a number, if there is one, makes with the mark of a request
 abbrev pub key_of : Option ℕ → RequestText → Option RetryKey
 key_of number r = option_map (key_with r) number
 
--- the same of what the program has, which lends the request
+-- the request that the program has, which it lends, as a value
 abbrev pub request_of : Numbered → RequestText
 request_of n = record { head = n.head.now; body = n.body.now }
 
+-- the key of the request that the program has, if it has a number
 abbrev pub own_key : Numbered → Option RetryKey
 own_key n = key_of n.number (request_of n)

@@ -20,11 +20,11 @@ use Rattle.cr_wire.specs.declared.what.What.TheVariants.{BadQuery, Query as Quer
 abbrev pub Pair : Type 0
 Pair = List ℕ × List ℕ
 
--- the text that an encoded name or value stands for
+-- the text that an encoded name or value means
 unfoldable pub decoded : List ℕ → List ℕ
 decoded bytes = utf8_lossy (decode bytes)
 
--- a name or a value stands for this text
+-- the encoded name or value means this text
 abbrev pub stands_for : List ℕ → List ℕ → Bool
 stands_for text bytes = bytes_eq (decoded bytes) text
 
@@ -44,7 +44,7 @@ search_text query = value_in (codes "q") (raw_pairs query)
 abbrev pub is_count : Pair → Bool
 is_count pair = is_named (codes "only") pair && stands_for (codes "count") pair.1
 
--- one is: how many papers a search finds is asked for, and not which
+-- a pair is `only=count`: the search asks how many papers it finds, and not which
 abbrev pub asks_count : List ℕ → Bool
 asks_count query = list_any is_count (raw_pairs query)
 
@@ -62,7 +62,7 @@ abbrev pub searched : Bool → Result (List Step) ℕ → What
 searched only_count (Err offset) = BadQuery asks.Search offset
 searched only_count (Ok steps) = Queries (queries.Search steps only_count)
 
--- what is wished by a query string
+-- the wish of a search with this query string
 abbrev pub search_in : List ℕ → What
 search_in query = searched (asks_count query) (search_read (search_text query))
 
@@ -72,22 +72,22 @@ search_in query = searched (asks_count query) (search_read (search_text query))
 abbrev pub is_short_number : List ℕ → Bool
 is_short_number text = is_number text && nat_le (length text) 3
 
--- the number that such a text is, where that is at most so many
+-- the number that the text is, from 1 to this one; `None` if it is no such number
 abbrev pub number_to : ℕ → List ℕ → Option ℕ
 number_to most text =
     if is_short_number text && nat_le (digits_value 10 text) most then Some (digits_value 10 text) else None
 
--- the number that the first pair of this name tells
+-- the number, up to this one, that the first pair of this name tells; `None` if there is none
 abbrev pub number_in : List ℕ → ℕ → List ℕ → Option ℕ
 number_in name most query = option_and_then (number_to most) (value_in name (raw_pairs query))
 
--- what is wished by a plan's two numbers: where one isn't there, the query string is a bad one from its start
+-- the wish of a plan with these two numbers; a query string that is bad from its start if one isn't there
 abbrev pub planned : Option ℕ → Option ℕ → What
 planned None load = BadQuery asks.Plan 0
 planned (Some per_paper) None = BadQuery asks.Plan 0
 planned (Some per_paper) (Some load) = Queries (queries.Plan per_paper load)
 
--- what is wished by a query string: how many more members each paper is to have, 1 to 26, and how many papers a member
--- is to have at most, 1 to 512
+-- the wish of a plan with this query string: how many more reviewers each paper is to have, 1 to 26, and how many
+-- papers a member is to have at most, 1 to 512
 abbrev pub plan_in : List ℕ → What
 plan_in query = planned (number_in (codes "per_paper") 26 query) (number_in (codes "load") 512 query)

@@ -1,5 +1,5 @@
--- The wish of a request: what is asked for, by whom (RFC 9110, section 11.6.2), in which form the answer comes, and of
--- which moment it is; whether the connection closes behind it (RFC 9112, section 9.3).
+-- The wish of a request: what is asked for, the credentials (RFC 9110, section 11.6.2), in which form the answer is
+-- sent, the timestamp, and whether the connection closes after the answer (RFC 9112, section 9.3).
 use Rattle.std.specs.Prelude.{ℕ, List, [], ◌∷◌, Bool, true, false, ◌||◌, Option}
 use Rattle.std.specs.Prelude.{Some, None, option_and_then, codes, if◌then◌else◌}
 use Rattle.std.specs.List.{list_any}
@@ -15,30 +15,30 @@ use Rattle.cr_wire.specs.Connection.{has_close}
 use Rattle.cr_wire.specs.declared.what.What.{What}
 use Rattle.cr_wire.specs.declared.what.Wish.{Wish}
 
--- the only one
+-- the only value of the list; `None` if there is none, or more than one
 abbrev pub the_only : {A : Type 0} → List A → Option A
 the_only [] = None
 the_only (x ∷ []) = Some x
 the_only (x ∷ y ∷ ys) = None
 
--- what the only field Authorization tells
+-- the credentials that the only field Authorization tells
 abbrev pub credentials_in : List (List ℕ × List ℕ) → Option Credentials
 credentials_in fields = option_and_then credentials_of (the_only (values_of (codes "authorization") fields))
 
--- what it tells a request that reads it
+-- the credentials that the field tells a request that reads it; none of a request that doesn't
 abbrev pub credentials_for : What → List (List ℕ × List ℕ) → Option Credentials
 credentials_for what fields = if reads_credentials what then credentials_in fields else None
 
--- HTTP/1.0 has no further request
+-- no further request follows on the connection, by the version: HTTP/1.0
 abbrev pub is_single : Version → Bool
 is_single versions.Http10 = true
 is_single versions.Http11 = false
 
--- the request asks that the connection be closed behind its answer: by its version, or by a field Connection
+-- the request asks that the connection closes after its answer: by its version, or by a field Connection
 abbrev pub asks_close : HeadText → Bool
 asks_close h = is_single h.version || list_any has_close (values_of (codes "connection") h.fields)
 
--- what is wished at this moment by a request of this head
+-- the wish of a request with this head that asks for this, at this timestamp
 abbrev pub wish_with : HeadText → What → ℕ → Wish
 wish_with h what at = record {
   credentials = credentials_for what h.fields;
@@ -48,6 +48,6 @@ wish_with h what at = record {
   what = what;
 }
 
--- what a request wishes, who tells so, and in which form the answer comes, where this is its moment
+-- the wish of a request at this timestamp
 abbrev pub wish_text : RequestText → ℕ → Wish
 wish_text r at = wish_with r.head (what_of r) at

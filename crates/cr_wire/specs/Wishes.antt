@@ -8,15 +8,16 @@ use Rattle.cr_wire.specs.declared.what.Wish.{Wish}
 abbrev pub last_request : ℕ
 last_request = 1048575
 
--- whether the connection closes behind its request number n: the wish asks for it, or it is the last that may come
+-- the connection closes after the answer to its request number n: the wish asks for it, or it is the last request that
+-- may come
 abbrev pub closes : ℕ → Wish → Bool
 closes n w = w.asks_close || n == last_request
 
--- the same of the request itself, whose moment is nothing to it
+-- the connection closes after the answer to its request number n, by the request; the timestamp doesn't matter
 unfoldable pub closes_behind : ℕ → RequestText → Bool
 closes_behind n r = asks_close r.head || n == last_request
 
--- the wishes of these requests, one by one, each at its own moment
+-- these are the wishes of these requests, one by one, each at a timestamp of its own
 abbrev pub AreWishes : List RequestText → List Wish → Type 0
 AreWishes [] [] = Unit {0}
 AreWishes [] (w ∷ ws) = ⊥
@@ -27,7 +28,7 @@ AreWishes (r ∷ rs) (w ∷ ws) = (w ≡ wish_text r w.at) × AreWishes rs ws
 abbrev pub moments_of : List Wish → List ℕ
 moments_of wishes = map (λ (w : Wish). w.at) wishes
 
--- the bytes spell these wishes, and so they end
+-- the bytes spell these wishes, and have this end
 pub record Wishes (bytes : List ℕ) (wishes : List Wish) (end : End) : Type 0 where
   pub requests : List RequestText
   pub spells : SpellsFrom closes_behind 0 bytes requests end

@@ -8,7 +8,7 @@ use Rattle.cr_words.specs.Numbers.{number_of}
 use Rattle.cr_words.specs.declared.read.Job.{Job}
 use Rattle.cr_words.specs.declared.read.Job.TheVariants.{Pipe, Serve, View, Drill}
 
--- a job as the texts of its options
+-- a job, with the texts and numbers of its options
 pub data NamedJob : Type 0 where
   -- the store, where one is told
   pipe_job : Option Text → NamedJob
@@ -19,47 +19,54 @@ pub data NamedJob : Type 0 where
   -- the number that the choices begin with, and how many steps
   drill_job : ℕ → ℕ → NamedJob
 
--- the job that the program is handed, whose texts are lent
+-- the job that the program is handed, which lends its texts, as a value
 abbrev pub job_seen : Job → NamedJob
 job_seen (Pipe store) = pipe_job (option_map (λ s. s.now) store)
 job_seen (Serve listen workers connections store) = serve_job listen.now workers connections store.now
 job_seen (View store user) = view_job store.now user.now
 job_seen (Drill seed steps) = drill_job seed steps
 
--- its numbers lie within their ranges
+-- the job's numbers are within their ranges
 abbrev pub IsInRange : NamedJob → Type 0
 IsInRange (serve_job listen workers connections store) =
     (1 ≤ workers) × (workers ≤ most_workers) × (1 ≤ connections) × (connections ≤ most_connections)
 IsInRange (drill_job seed steps) = (seed ≤ greatest_seed) × (1 ≤ steps) × (steps ≤ most_steps)
 IsInRange _ = ⊤
 
--- a job is named, and it is one whose numbers lie within their ranges
+-- a job is named, and its numbers are within their ranges
 abbrev pub IsNamed : Option NamedJob → Type 0
 IsNamed named = (job : NamedJob) × (named ≡ Some job) × IsInRange job
 
+-- the job `serve` with these options, if all are there
 abbrev pub with_all : Option Text → Option ℕ → Option ℕ → Option Text → Option NamedJob
 with_all (Some listen) (Some workers) (Some connections) (Some store) =
     Some (serve_job listen workers connections store)
 with_all _ _ _ _ = None
 
+-- the number that the option of this name has; `None` if it isn't there, or is no number
 abbrev pub number_at : Text → List Row → Option ℕ
 number_at id rows = option_and_then number_of (first_of id rows)
 
+-- the job `serve`, by the values of its options
 abbrev pub serve_named : List Row → Option NamedJob
 serve_named rows = with_all (first_of (codes "listen") rows) (number_at (codes "workers") rows)
     (number_at (codes "connections") rows) (first_of (codes "store") rows)
 
+-- the job `view` with these options, if both are there
 abbrev pub with_both : Option Text → Option Text → Option NamedJob
 with_both (Some store) (Some user) = Some (view_job store user)
 with_both _ _ = None
 
+-- the job `view`, by the values of its options
 abbrev pub view_named : List Row → Option NamedJob
 view_named rows = with_both (first_of (codes "store") rows) (first_of (codes "user") rows)
 
+-- the job `drill` with these options, if both are there
 abbrev pub with_numbers : Option ℕ → Option ℕ → Option NamedJob
 with_numbers (Some seed) (Some steps) = Some (drill_job seed steps)
 with_numbers _ _ = None
 
+-- the job `drill`, by the values of its options
 abbrev pub drill_named : List Row → Option NamedJob
 drill_named rows = with_numbers (number_at (codes "seed") rows) (number_at (codes "steps") rows)
 

@@ -1,6 +1,6 @@
--- What is written where the words are refused.
+-- What is written if the words are refused.
 use Rattle.std.specs.Prelude.{ℕ, List, codes}
 
--- the line names every job that the program is ever to have
+-- the line that names every job of the program
 unfoldable pub usage : List ℕ
 usage = codes "usage: confd pipe|serve|view|drill\n"

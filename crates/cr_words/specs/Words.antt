@@ -3,30 +3,32 @@ use Rattle.std.specs.Prelude.{ℕ, Bool, true, false, not, ◌==◌, List, [], �
 use Rattle.clap.specs.declared.builder.value_parser.ValueParser.TheVariants.{Unsigned}
 use Rattle.clap.specs.Words.{App, Rule, Text, new_app, new_rule, with_rule, with_subcommand}
 
--- an option `--id VALUE`: any text, and at most once
+-- an option `--id VALUE`: any text, at most once; the `Bool` says whether it has to be there
 abbrev pub text_option : Text → Bool → Rule
 text_option id is_required = record (new_rule id) { long = Some id; required = is_required }
 
--- a command with these options more
+-- the command with these options added
 abbrev pub with_rules : App → List Rule → App
 with_rules a [] = a
 with_rules a (r ∷ rest) = with_rules (with_rule a r) rest
 
--- an option `--id NUMBER` that has to be there: a number from low to high, and once
+-- an option `--id NUMBER` that has to be there, once: a number from low to high
 abbrev pub number_option : Text → ℕ → ℕ → Rule
 number_option id low high = record (text_option id true) { parser = Some (Unsigned low high) }
 
--- how many workers there may be, and how many connections they may serve
+-- how many workers there may be
 abbrev pub most_workers : ℕ
 most_workers = 64
 
+-- how many connections workers may serve
 abbrev pub most_connections : ℕ
 most_connections = 65536
 
--- the greatest number that a drill's choices begin with, and how many steps it may have
+-- the greatest number from which a drill's choices may begin
 abbrev pub greatest_seed : ℕ
 greatest_seed = 2147483647
 
+-- how many steps a drill may have
 abbrev pub most_steps : ℕ
 most_steps = 100000
 
@@ -52,11 +54,11 @@ drill =
     with_rules (new_app (codes "drill"))
     (number_option (codes "seed") 0 greatest_seed ∷ number_option (codes "steps") 1 most_steps ∷ [])
 
--- one of the subcommands has to be named, and clap's own `help` is none of them
+-- the command, with one of its subcommands required, and without clap's own `help`
 abbrev pub required : App → App
 required a = record a { top = record a.top { subcommand_required = true; disable_help_subcommand = true } }
 
--- the program: one line for each subcommand
+-- the program: a line for each subcommand
 unfoldable pub confd_words : App
 confd_words =
     with_subcommand (with_subcommand (with_subcommand (with_subcommand (required (new_app (codes "confd"))) pipe.top)
@@ -65,40 +67,42 @@ confd_words =
 
 -- ---- options among the words
 
--- the text isn't written as an option is: it doesn't begin with a hyphen (45)
+-- the text isn't written as options are: it doesn't begin with a hyphen (45)
 abbrev pub is_plain_text : Text → Bool
 is_plain_text [] = true
 is_plain_text (b ∷ rest) = not (b == 45)
 
--- the option as two words
+-- the option `--store`, as two words
 abbrev pub store_words : Text → List Text
 store_words file = codes "--store" ∷ file ∷ []
 
+-- the option `--user`, as two words
 abbrev pub user_words : Text → List Text
 user_words user = codes "--user" ∷ user ∷ []
 
--- the four options of `serve`, eight words
+-- the four options of `serve`, as eight words
 abbrev pub serve_words : Text → Text → Text → Text → List Text
 serve_words listen workers connections file =
     codes "--listen" ∷ listen ∷ codes "--workers" ∷ workers ∷ codes "--connections" ∷ connections ∷ store_words file
 
--- the option as one word, with its value behind `=`
+-- the option `--store`, as one word with its value after `=`
 abbrev pub store_word : Text → Text
 store_word file = codes "--store=" ++ file
 
+-- the option `--user`, as one word with its value after `=`
 abbrev pub user_word : Text → Text
 user_word user = codes "--user=" ++ user
 
--- the four options of `serve`, a word each
+-- the four options of `serve`, as a word each
 abbrev pub serve_word : Text → Text → Text → Text → List Text
 serve_word listen workers connections file =
     (codes "--listen=" ++ listen) ∷ (codes "--workers=" ++ workers)
     ∷ (codes "--connections=" ++ connections) ∷ store_word file ∷ []
 
--- the two options of `drill`, four words
+-- the two options of `drill`, as four words
 abbrev pub drill_words : Text → Text → List Text
 drill_words seed steps = codes "--seed" ∷ seed ∷ codes "--steps" ∷ steps ∷ []
 
--- and a word each
+-- the two options of `drill`, as a word each
 abbrev pub drill_word : Text → Text → List Text
 drill_word seed steps = (codes "--seed=" ++ seed) ∷ (codes "--steps=" ++ steps) ∷ []

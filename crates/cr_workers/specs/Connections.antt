@@ -24,6 +24,7 @@ pub record Streams (K I O C : Type 0) : Type 1 where
   pub coming : C → Option (List ℕ)
   pub clock_faults : C → ℕ
 
+-- what contracts see of a connection's streams and turns, by the members of their traits
 abbrev pub streams_of : {K I O C : Type 0} → Tries K → (I → Option (List ℕ)) → (I → I → List ℕ → Type 0) → (I → ℕ)
     → (O → Option Taken) → (O → ℕ) → (C → Option (List ℕ)) → (C → ℕ) → Streams K I O C
 streams_of tries left gives read_faults taken write_faults coming clock_faults = record {

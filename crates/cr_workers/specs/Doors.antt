@@ -42,6 +42,7 @@ pub record SeenDoor (I O C : Type 0) : Type 0 where
   pub faults : ℕ
   pub log : Option (DoorLog I O C)
 
+-- what contracts see of a door, by the members of its trait
 abbrev pub door_of : {D I O C : Type 0} → (D → ℕ) → (D → Bool) → (D → ℕ) → (D → Option (DoorLog I O C)) → D
     → SeenDoor I O C
 door_of left is_out faults log door =
