@@ -20,6 +20,8 @@ def crate_page(source):
     """What the lines `//!` at the front of a source say, each in its line."""
     lines = []
     for line in source.split("\n"):
+        if line.startswith("// SPDX-"):
+            continue
         if not line.startswith("//!"):
             break
         lines.append(line.removeprefix("//!").removeprefix(" "))

@@ -1,3 +1,4 @@
+// SPDX-License-Identifier: Apache-2.0 OR MIT
 //! confd, a conference review server: the command line over standard input and standard output.
 #![tactic(auto)]
 

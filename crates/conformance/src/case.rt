@@ -1,3 +1,4 @@
+// SPDX-License-Identifier: Apache-2.0 OR MIT
 //! A case: what is sent on its connections, what fails meanwhile, and what is due.
 
 use crate::connection::{Connection, Talk};

@@ -1,3 +1,4 @@
+// SPDX-License-Identifier: Apache-2.0 OR MIT
 //! One connection of a case: what is sent on it, where it fails, and what is due.
 
 use crate::message::{add_answer, add_request};

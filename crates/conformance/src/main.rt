@@ -1,3 +1,4 @@
+// SPDX-License-Identifier: Apache-2.0 OR MIT
 //! Whole runs as data: the case files of the folder that this runs in, against the program.
 //!
 //! A case is what is sent, on the program's own input or on many connections, and what is due: each answer's every

@@ -1,3 +1,4 @@
+// SPDX-License-Identifier: Apache-2.0 OR MIT
 //! The bytes of requests and answers that a line of a case tells in short.
 
 use crate::text::{LineError, add_text};

@@ -1,3 +1,4 @@
+// SPDX-License-Identifier: Apache-2.0 OR MIT
 //! One run of a case, over streams, a store and gates in memory.
 
 use crate::connection::{Connection, Talk};

@@ -1,3 +1,4 @@
+// SPDX-License-Identifier: Apache-2.0 OR MIT
 //! Whether what came of the connections of a case is what is due.
 
 use crate::case::{Case, Times};

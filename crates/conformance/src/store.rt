@@ -1,3 +1,4 @@
+// SPDX-License-Identifier: Apache-2.0 OR MIT
 //! The rows of a store, as lines of a case tell them.
 ghost use Rattle.std.specs.Prelude.{◌≡◌};
 

@@ -1,3 +1,4 @@
+// SPDX-License-Identifier: Apache-2.0 OR MIT
 //! Texts with escapes, as bodies, answers and raw bytes are written in a case.
 
 use std::alloc::{AllocError, AllocFailed};

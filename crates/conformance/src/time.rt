@@ -1,3 +1,4 @@
+// SPDX-License-Identifier: Apache-2.0 OR MIT
 //! The moments that the clocks of a case give.
 
 use crate::text::LineError;

@@ -1,3 +1,4 @@
+// SPDX-License-Identifier: Apache-2.0 OR MIT
 //! Whether the runs of a case come to what is due.
 
 use crate::case::{Case, Ways};

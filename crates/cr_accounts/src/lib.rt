@@ -1,3 +1,4 @@
+// SPDX-License-Identifier: Apache-2.0 OR MIT
 //! The table of accounts: who is registered, under which name, with which digest and in which role.
 //!
 //! # Proved

@@ -1,3 +1,4 @@
+-- SPDX-License-Identifier: Apache-2.0 OR MIT
 -- The letters that stand for reviewers.
 use Rattle.std.specs.Prelude.{ℕ, ◌+◌}
 

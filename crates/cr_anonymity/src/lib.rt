@@ -1,3 +1,4 @@
+// SPDX-License-Identifier: Apache-2.0 OR MIT
 //! Which callers are shown the names of authors, reviewers and commenters.
 //!
 //! # Proved

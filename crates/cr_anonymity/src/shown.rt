@@ -1,3 +1,4 @@
+// SPDX-License-Identifier: Apache-2.0 OR MIT
 //! Whom the names on a paper are shown to.
 ghost use Rattle.std.specs.Prelude.{◌≡◌};
 ghost use Rattle.cr_base.specs.Page.{shows_author, shows_reviewer, shows_writer};

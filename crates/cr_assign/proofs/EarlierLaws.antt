@@ -1,3 +1,4 @@
+-- SPDX-License-Identifier: Apache-2.0 OR MIT
 -- Who reviews a paper behind earlier entries, how many labels it has given, and who is invited to it, from what these
 -- tell.
 use Rattle.std.proofs.Common.{ℕ, Bool, true, false, cond, ◌≡◌, ◌+◌, [], ◌∷◌, length, eqb, refl, ap, ◌∙◌, arith, fold}

@@ -1,3 +1,4 @@
+-- SPDX-License-Identifier: Apache-2.0 OR MIT
 -- The table with one seat more, and with one left: who reviews what, by user, and where the seat stands.
 use Rattle.std.proofs.Common.{ℕ, Bool, true, false, cond, ◌≡◌, ◌≤◌, ◌<◌, ◌-◌, List, length, get_or, eqb, refl, sym, ap}
 use Rattle.std.proofs.Common.{subst, ◌∙◌, ◌&&◌, arith, Option, Some, None}

@@ -1,3 +1,4 @@
+-- SPDX-License-Identifier: Apache-2.0 OR MIT
 -- The list of seats where one is left, by its index among those of its paper.
 use Rattle.std.proofs.Common.{ℕ, Bool, true, false, cond, ◌≡◌, ◌<◌, ◌+◌, List, [], ◌∷◌, length, get_or, eqb, refl, sym}
 use Rattle.std.proofs.Common.{ap, ◌∙◌, arith, zero, suc, ◌&&◌}

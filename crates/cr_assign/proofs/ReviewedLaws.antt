@@ -1,3 +1,4 @@
+-- SPDX-License-Identifier: Apache-2.0 OR MIT
 -- Under which ordinal a user reviews the papers that she is found to review.
 use Rattle.std.proofs.Common.{ℕ, Bool, ◌≡◌, List, get_or, eqb, refl, sym, ap, ◌∙◌, Some}
 use Rattle.std.specs.List.{All}

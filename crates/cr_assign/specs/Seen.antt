@@ -1,3 +1,4 @@
+-- SPDX-License-Identifier: Apache-2.0 OR MIT
 -- What contracts see of the table of seats.
 use Rattle.cr_base.specs.Invites.{InvitesState}
 use Rattle.cr_base.specs.Seats.{SeatsState}

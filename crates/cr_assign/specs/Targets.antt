@@ -1,3 +1,4 @@
+-- SPDX-License-Identifier: Apache-2.0 OR MIT
 -- The user whom a command names, and the paper's labels, as the rules ask of them.
 use Rattle.std.specs.Prelude.{ℕ, Bool, false, not, ◌&&◌, Option, Some, is_some, unwrap_or}
 use Rattle.std.specs.Option.{option_map, option_and_then}

@@ -1,3 +1,4 @@
+// SPDX-License-Identifier: Apache-2.0 OR MIT
 //! What earlier entries of the same command make of the seats of a paper.
 ghost use Rattle.std.specs.Prelude.{◌≡◌, Some, not, fold, count_by};
 ghost use Rattle.cr_base.specs.History.{assigned_told, invite_told, ordinal_told};

@@ -1,3 +1,4 @@
+// SPDX-License-Identifier: Apache-2.0 OR MIT
 //! The rules of assigning a reviewer and of taking one off a paper, of inviting somebody and of taking that back, a
 //! function a list of checks, each of a paper that is there and of a user who has registered.
 ghost use Rattle.std.specs.Prelude.{◌≡◌, ◌+◌, true, false, Some, None, unwrap_or};

@@ -1,3 +1,4 @@
+// SPDX-License-Identifier: Apache-2.0 OR MIT
 //! The table of seats: who is assigned to which paper, under which label, and who has left; and who is invited to
 //! review which paper from outside the committee.
 //!

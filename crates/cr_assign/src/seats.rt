@@ -1,3 +1,4 @@
+// SPDX-License-Identifier: Apache-2.0 OR MIT
 //! The seats of papers, who reviews which, and who is invited to which from outside the committee.
 ghost use Rattle.std.specs.Prelude.{false, not, ◌&&◌, ◌≡◌, ◌==◌, ◌≤◌, ◌<◌, ◌+◌, OnOk, Some, ◌∷◌, []};
 ghost use Rattle.std.specs.Prelude.{length, map, is_some, slice_index};

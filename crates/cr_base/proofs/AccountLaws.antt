@@ -1,3 +1,4 @@
+-- SPDX-License-Identifier: Apache-2.0 OR MIT
 -- What is read of the accounts: by number and by name, and as everyone sees them.
 use Rattle.std.proofs.Common.{ℕ, Bool, true, false, cond, ◌≡◌, ◌+◌, List, [], ◌∷◌, ◌++◌, length, refl, sym, ap, subst}
 use Rattle.std.proofs.Common.{◌∙◌, arith, zero, suc, add-zero, ◌≤◌, ◌<◌, Option, Some, None, is_some, Result, Ok, Err}

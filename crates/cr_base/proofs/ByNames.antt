@@ -1,3 +1,4 @@
+-- SPDX-License-Identifier: Apache-2.0 OR MIT
 -- Commands by names of commands by number: where each user told by number has registered, and names are told once, the
 -- command that names them resolves to it.
 use Rattle.std.proofs.Common.{ℕ, Bool, true, false, ◌≡◌, List, [], ◌∷◌, cond, eqb, refl, sym, ap, ◌∙◌, Option, Some, None}

@@ -1,3 +1,4 @@
+-- SPDX-License-Identifier: Apache-2.0 OR MIT
 -- Lists in which one element was changed: what stands at each index, and by number.
 use Rattle.std.proofs.Common.{ℕ, Bool, true, false, cond, ◌≡◌, ◌≤◌, ◌+◌, ◌-◌, List, [], ◌∷◌, eqb, refl, sym, ap, ◌∙◌}
 use Rattle.std.proofs.Common.{arith, zero, suc, Option, Some, None}

@@ -1,3 +1,4 @@
+-- SPDX-License-Identifier: Apache-2.0 OR MIT
 -- Invitations, after one more entry.
 use Rattle.std.proofs.Common.{ℕ, Bool, true, false, ◌≡◌, eqb, refl, ap, ◌∙◌, ◌&&◌, ◌||◌, Option, Some, None}
 use Rattle.std.specs.Prelude.{not}

@@ -1,3 +1,4 @@
+-- SPDX-License-Identifier: Apache-2.0 OR MIT
 -- The last of the values that are told.
 use Rattle.std.proofs.Common.{Bool, true, false, cond, ◌≡◌, ◌-◌, List, [], ◌∷◌, ◌++◌, length, refl, ap, ◌∙◌, arith}
 use Rattle.std.proofs.Common.{Option, Some, None}

@@ -1,3 +1,4 @@
+-- SPDX-License-Identifier: Apache-2.0 OR MIT
 -- Elements by their number, and the numbers of elements.
 use Rattle.std.proofs.Common.{ℕ, Bool, true, false, cond, ◌≡◌, ◌≤◌, ◌+◌, ◌-◌, List, [], ◌∷◌, ◌++◌, length, eqb, refl}
 use Rattle.std.proofs.Common.{sym, ap, ◌∙◌, arith, zero, suc, Option, Some, None, ◌&&◌, ◌||◌}

@@ -1,3 +1,4 @@
+-- SPDX-License-Identifier: Apache-2.0 OR MIT
 -- The papers where one of them is changed.
 use Rattle.std.proofs.Common.{ℕ, Bool, true, false, cond, ◌≡◌, ◌≤◌, ◌-◌, List, length, eqb, refl, ap, ◌∙◌, arith, zero}
 use Rattle.std.proofs.Common.{suc, Option, Some, None}

@@ -1,3 +1,4 @@
+-- SPDX-License-Identifier: Apache-2.0 OR MIT
 -- The numbers that texts spell.
 use Rattle.std.proofs.Common.{◌≡◌, ◌≢◌, ℕ, ◌≤◌, List, [], ◌∷◌, length, true, false, ◌&&◌, ◌==◌, not, IsTrue, arith}
 use Rattle.std.proofs.Common.{nat_le}

@@ -1,3 +1,4 @@
+-- SPDX-License-Identifier: Apache-2.0 OR MIT
 -- What is planned stands by its numbers: papers rise, and so do the users of members.
 use Rattle.std.proofs.Common.{ℕ, Bool, true, false, cond, ◌≡◌, ◌<◌, ◌+◌, List, [], ◌∷◌, map, refl, arith, Option}
 use Rattle.std.specs.Prelude.{filter, nat_lt, not}

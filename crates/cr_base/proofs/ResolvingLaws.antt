@@ -1,3 +1,4 @@
+-- SPDX-License-Identifier: Apache-2.0 OR MIT
 -- What resolves a command: who is found by a name is there, and the command that an entry tells is the one whose deed
 -- begins with such an entry.
 use Rattle.std.proofs.Common.{ℕ, Bool, true, false, ◌≡◌, List, [], ◌∷◌, eqb, refl, sym, ap, ◌∙◌}

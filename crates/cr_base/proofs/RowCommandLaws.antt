@@ -1,3 +1,4 @@
+-- SPDX-License-Identifier: Apache-2.0 OR MIT
 -- What a row of a bulk asks for is one of the commands that a row may tell.
 use Rattle.cr_base.specs.declared.bulk.RowCommand.{RowCommand}
 use Rattle.cr_base.specs.declared.bulk.RowCommand.TheVariants.{Conflict, Assign, Unassign, Tag}

@@ -1,3 +1,4 @@
+-- SPDX-License-Identifier: Apache-2.0 OR MIT
 -- A paper's number is the one that its digits spell.
 use Rattle.std.proofs.Common.{ℕ, Bool, true, ◌≡◌, ◌≤◌, ◌<◌, ◌^◌, List, [], ◌∷◌, length, ap, ◌∙◌, refl, arith, Some}
 use Rattle.std.proofs.Common.{None, cond, get_or}

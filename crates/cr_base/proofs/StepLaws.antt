@@ -1,3 +1,4 @@
+-- SPDX-License-Identifier: Apache-2.0 OR MIT
 -- Steps one after another, and how many they are at most.
 use Rattle.std.proofs.Common.{ℕ, ◌≤◌, ◌<◌, ◌+◌, ◌-◌, ◌*◌, ◌^◌, arith, zero, suc, Option, Some, None}
 use Rattle.std.proofs.Math.Nat.{pow-suc}

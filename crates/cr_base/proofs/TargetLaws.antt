@@ -1,3 +1,4 @@
+-- SPDX-License-Identifier: Apache-2.0 OR MIT
 -- The users and papers that commands name are numbered within the tables.
 use Rattle.std.proofs.Common.{ℕ, false, ◌≡◌, ◌≤◌, ◌+◌, ◌-◌, List, [], ◌∷◌, length, eqb, refl, sym, ap, ◌∙◌, arith, zero}
 use Rattle.std.proofs.Common.{suc, Option, Some, None, ◌&&◌}

@@ -1,3 +1,4 @@
+-- SPDX-License-Identifier: Apache-2.0 OR MIT
 -- UTF-8 as a fact and as a test.
 use Rattle.std.proofs.Common.{ℕ, Bool, true, false, ◌≡◌, List, refl}
 use Rattle.std.specs.Str.{IsUtf8, is_utf8}

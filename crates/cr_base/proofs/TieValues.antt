@@ -1,3 +1,4 @@
+-- SPDX-License-Identifier: Apache-2.0 OR MIT
 -- What is kept of ties in ascending order, walked by their other numbers: the values of a paper's users, by number.
 use Rattle.std.proofs.Common.{ℕ, Bool, true, false, cond, ◌≡◌, ◌≤◌, List, [], ◌∷◌, ◌++◌, length, eqb, refl, sym, ap}
 use Rattle.std.proofs.Common.{◌∙◌, arith, ◌||◌, ◌&&◌, Option, Some, None}

@@ -1,3 +1,4 @@
+-- SPDX-License-Identifier: Apache-2.0 OR MIT
 -- The answer to each query, by what one is given of the conference (Facts) and of its papers (Shown). With the facts of
 -- a view it is `answer` of cr_policy, with those of the tables `answer_by_role`.
 use Rattle.std.specs.Prelude.{ℕ, Bool, true, false, not, ◌≢◌, ◌&&◌, ◌==◌, List, [], length, map, Option}

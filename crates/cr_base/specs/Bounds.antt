@@ -1,3 +1,4 @@
+-- SPDX-License-Identifier: Apache-2.0 OR MIT
 -- The bounds on one command: what a body has to be within, so that no entry is added that no row
 -- spells. A bid is kept plus 20.
 use Rattle.std.specs.Prelude.{ℕ, ◌≡◌, ◌≤◌, length, IsTrue}

@@ -1,3 +1,4 @@
+-- SPDX-License-Identifier: Apache-2.0 OR MIT
 -- Bulk assignment: what a row asks for, and how the rows of a file are judged, each after those before it (the HotCRP
 -- manual's bulk assignment files; their actions and columns here are the server's own).
 use Rattle.std.specs.Prelude.{ℕ, Bool, true, false, not, ◌+◌, ◌≤◌, List, [], ◌∷◌, ◌++◌}

@@ -1,3 +1,4 @@
+-- SPDX-License-Identifier: Apache-2.0 OR MIT
 -- Calls: who asks for what, when, and by which number, and the stamp under which the entries that it adds are kept.
 -- Timestamps are in seconds (Moments).
 use Rattle.std.specs.Prelude.{ℕ, List, Option, Some, unwrap_or}

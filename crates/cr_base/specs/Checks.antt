@@ -1,3 +1,4 @@
+-- SPDX-License-Identifier: Apache-2.0 OR MIT
 -- The rules of each command and query, in order, over plain values: a list of checks, of which the first broken one is
 -- the answer. They are the server's own, by CoCon's phases and roles and the HotCRP manual's conflicts; docs/API.md has
 -- their order. Each comment lists the arguments. A caller's standing is that at the paper where one is named, and

@@ -1,3 +1,4 @@
+-- SPDX-License-Identifier: Apache-2.0 OR MIT
 -- Deadlines: until when what a phase opens may be done. A deadline is whole seconds, as those of moments (Moments),
 -- from 1 to the last second that `jiff` has in every time zone: 9999-12-30T22:00:00Z.
 use Rattle.std.specs.Prelude.{ℕ, Bool, false, ◌&&◌, ◌≤◌, nat_le, nat_lt, List, [], ◌∷◌, Option, Some, None}

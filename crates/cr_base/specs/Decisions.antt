@@ -1,3 +1,4 @@
+-- SPDX-License-Identifier: Apache-2.0 OR MIT
 -- Decisions: when a paper is accepted, and the table of decisions (the HotCRP manual's decisions; CoCon's
 -- phases say when they are told).
 use Rattle.std.specs.Prelude.{ℕ, Bool, not, ◌&&◌, List, [], Option}

@@ -1,3 +1,4 @@
+-- SPDX-License-Identifier: Apache-2.0 OR MIT
 -- What a command asks and does, whatever its stamp; its users are told by number.
 use Rattle.std.specs.Prelude.{ℕ, Bool, true, not, ◌+◌, List, [], ◌∷◌, length, Option, Some, None, is_some, unwrap_or}
 use Rattle.std.specs.Prelude.{Result}

@@ -1,3 +1,4 @@
+-- SPDX-License-Identifier: Apache-2.0 OR MIT
 -- Histories, and what one entry tells: each definition ending in `_told` gives the values that an entry adds to one
 -- fact, at most one. In the records a field that an answer or a view may hide is `None` where it is hidden.
 use Rattle.std.specs.Prelude.{ℕ, Bool, true, false, List, [], ◌∷◌, Option, Some, None, ◌&&◌, ◌==◌, length}

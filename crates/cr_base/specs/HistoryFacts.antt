@@ -1,3 +1,4 @@
+-- SPDX-License-Identifier: Apache-2.0 OR MIT
 -- Facts of a history: what it says of the conference, of its papers, and of a user.
 use Rattle.std.specs.Prelude.{ℕ, Bool, false, not, ◌||◌, ◌&&◌, ◌==◌, List, [], ◌++◌, Option}
 use Rattle.std.specs.Prelude.{length, map, Some, None, is_some, filter, find, fold, if◌then◌else◌}

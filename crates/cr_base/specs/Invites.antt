@@ -1,3 +1,4 @@
+-- SPDX-License-Identifier: Apache-2.0 OR MIT
 -- The table of invitations: who may review which paper as one from outside the committee (the HotCRP manual's external
 -- reviewers).
 use Rattle.std.specs.Prelude.{ℕ, Bool, false, [], fold, Option, Some, None}

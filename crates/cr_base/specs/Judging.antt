@@ -1,3 +1,4 @@
+-- SPDX-License-Identifier: Apache-2.0 OR MIT
 -- The judgement of commands, by facts (Facts, Shown): with those of a view it is `judge` of cr_policy, with those of
 -- the tables `judge_by_role`. First the users that a command names are looked up among the accounts; all rules and
 -- entries go by their numbers.

@@ -1,3 +1,4 @@
+-- SPDX-License-Identifier: Apache-2.0 OR MIT
 -- Keys: the number that a client gives a command, with the mark of its request. A later command of the same user with
 -- the same number isn't judged again (Retries).
 use Rattle.std.specs.Prelude.{ℕ, Bool, false, ◌≡◌, ◌≤◌, ◌==◌, ◌&&◌, nat_le, List, [], length, filter}

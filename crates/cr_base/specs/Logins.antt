@@ -1,3 +1,4 @@
+-- SPDX-License-Identifier: Apache-2.0 OR MIT
 -- What a command or a query asks for, and who must be logged in for it: all by one table of what can be asked for.
 use Rattle.std.specs.Prelude.{Bool, true, false}
 use Rattle.cr_base.specs.declared.ask.Ask.{Ask}

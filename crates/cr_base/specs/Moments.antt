@@ -1,3 +1,4 @@
+-- SPDX-License-Identifier: Apache-2.0 OR MIT
 -- Timestamps (moments): whole seconds since 1970-01-01T00:00:00Z, no leap second counted (POSIX.1-2017, section 4.16),
 -- up to the last one of the year 9999, after which a year doesn't fit four digits (RFC 9110, section 5.6.7).
 use Rattle.std.specs.Prelude.{ℕ, ◌≤◌, nat_le, Option, Some, None, if◌then◌else◌}

@@ -1,3 +1,4 @@
+-- SPDX-License-Identifier: Apache-2.0 OR MIT
 -- A paper's page: which keys a caller is told, by their standing at the paper, and what the keys hold. From which phase
 -- on follows CoCon's phases; title, abstract, authors, conflicts, review preferences and the kinds of review are the
 -- HotCRP manual's. Each definition says of a caller with this standing whether a key is there; a `Bool` besides it says

@@ -1,3 +1,4 @@
+-- SPDX-License-Identifier: Apache-2.0 OR MIT
 -- Numbers of papers and names of users, as texts spell them.
 use Rattle.std.specs.Prelude.{ℕ, List, length, Bool, ◌&&◌, ◌==◌, not, nat_le}
 use Rattle.std.specs.Prelude.{Option, Some, None, if◌then◌else◌, slice_index}

@@ -1,3 +1,4 @@
+-- SPDX-License-Identifier: Apache-2.0 OR MIT
 -- The order of phases, and what each opens and ends: each definition says of a phase whether something may be done or
 -- seen in it. All other definitions go by these. By CoCon's phases a conference only moves forward; what is done and
 -- seen in them, and the authors' response, is the HotCRP manual's.

@@ -1,3 +1,4 @@
+-- SPDX-License-Identifier: Apache-2.0 OR MIT
 -- Plans of assignments: this many more members for each paper and at most this many papers for each member, by what
 -- they bid (paper assignment by preferences, as HotCRP's manual has it; which papers and members, and the text, are the
 -- server's own). The plan that is told is defined as the best of all plans; the program doesn't make them all.

@@ -1,3 +1,4 @@
+-- SPDX-License-Identifier: Apache-2.0 OR MIT
 -- Which users a command names: each user told by a name is the number of that name among the accounts, or there is no
 -- such user. Besides, the command whose group begins with an entry, which tells users by number already.
 use Rattle.std.specs.Prelude.{ℕ, Bool, true, false, List, [], Option, Some, None, is_none, if◌then◌else◌}

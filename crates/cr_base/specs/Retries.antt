@@ -1,3 +1,4 @@
+-- SPDX-License-Identifier: Apache-2.0 OR MIT
 -- Retries: what becomes of a command that has a number. If a command of its caller with this number was accepted, it
 -- isn't judged again (in the manner of the Idempotency-Key field of the IETF's HTTPAPI working group).
 use Rattle.std.specs.Prelude.{ℕ, Bool, List, [], ◌∷◌, length, Option, Some, None, if◌then◌else◌}

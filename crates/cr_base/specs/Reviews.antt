@@ -1,3 +1,4 @@
+-- SPDX-License-Identifier: Apache-2.0 OR MIT
 -- The table of reviews: the forms that reviewers have written (the HotCRP manual's review form, with two texts),
 -- each with the phase in which it was.
 use Rattle.std.specs.Prelude.{ℕ, Bool, not, ◌≡◌, ◌+◌, ◌==◌, List, [], ◌++◌, length, map, filter, Option, None}

@@ -1,3 +1,4 @@
+-- SPDX-License-Identifier: Apache-2.0 OR MIT
 -- The row of each entry, and the entry of a row, kind by kind. Numbers and fields are the server's own
 -- (docs/STORE.md).
 use Rattle.std.specs.Prelude.{ℕ, Bool, ◌==◌, ◌+◌, List, [], codes, Option, Some, None, if◌then◌else◌, map}

@@ -1,3 +1,4 @@
+-- SPDX-License-Identifier: Apache-2.0 OR MIT
 -- Searches (the HotCRP manual's search keywords): the tree of what is asked for, and the steps that spell it, each
 -- operation behind its operands (Łukasiewicz's notation).
 use Rattle.std.specs.Prelude.{◌≡◌, List, [], ◌∷◌, ◌++◌, length, Option, Some, None}

@@ -1,3 +1,4 @@
+-- SPDX-License-Identifier: Apache-2.0 OR MIT
 -- Which papers a search finds. Each term goes by what the caller is told of a paper by its page, its reviews, its
 -- comments and its response. What the caller isn't told makes a term false, and so its negation true: no search tells
 -- what the answers don't.

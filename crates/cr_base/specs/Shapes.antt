@@ -1,3 +1,4 @@
+-- SPDX-License-Identifier: Apache-2.0 OR MIT
 -- What the fields of a row may have: ranges of numbers and grammars of bytes, which are the server's own
 -- (docs/STORE.md).
 use Rattle.std.specs.Prelude.{ℕ, Bool, ◌≡◌, ◌≤◌, ◌==◌, ◌&&◌, nat_le, List, [], length, Option, Some, None}

@@ -1,3 +1,4 @@
+-- SPDX-License-Identifier: Apache-2.0 OR MIT
 -- What rules and answers read: a record of facts (Facts) and one of what is given of each paper (Shown). With those of
 -- a view they make `judge` and `answer` of cr_policy, with those of the tables `judge_by_role` and `answer_by_role`.
 use Rattle.std.specs.Prelude.{ℕ, Bool, not, ◌||◌, ◌&&◌, ◌==◌, List, Option, Some, None, is_some, find, map}

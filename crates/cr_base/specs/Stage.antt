@@ -1,3 +1,4 @@
+-- SPDX-License-Identifier: Apache-2.0 OR MIT
 -- The stage of the conference: what an entry makes of its phase (CoCon's phases), of whether the response was opened,
 -- of its mode (the HotCRP manual's anonymity) and of its deadlines.
 use Rattle.std.specs.Prelude.{ℕ, Bool, false, ◌||◌}

@@ -1,3 +1,4 @@
+-- SPDX-License-Identifier: Apache-2.0 OR MIT
 -- Steps: how many stored records were read, one for each. It is a counter in the code that is analysed, as Knuth counts
 -- in The Art of Computer Programming, volume 1, section 1.2.10; `None` if nothing is counted.
 use Rattle.std.specs.Prelude.{ℕ, ◌≡◌, ◌≤◌, ◌+◌, ◌-◌, ◌*◌, ◌^◌, Option, Some, None, ⊤}

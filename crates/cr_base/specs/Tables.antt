@@ -1,3 +1,4 @@
+-- SPDX-License-Identifier: Apache-2.0 OR MIT
 -- The current tables that a history comes to.
 use Rattle.std.specs.Prelude.{List, [], ◌∷◌, fold}
 use Rattle.cr_base.specs.declared.entry.Account.{Account}

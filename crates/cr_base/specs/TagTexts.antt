@@ -1,3 +1,4 @@
+-- SPDX-License-Identifier: Apache-2.0 OR MIT
 -- The grammar of tags (the HotCRP manual's: `~` is one's own, `~~` is for chairs).
 use Rattle.std.specs.Prelude.{ℕ, Bool, false, not, ◌&&◌, ◌==◌, List, [], ◌∷◌, drop, if◌then◌else◌}
 use Rattle.cr_base.specs.Texts.{is_name}

@@ -1,3 +1,4 @@
+-- SPDX-License-Identifier: Apache-2.0 OR MIT
 -- Tags: their grammar and their order (the HotCRP manual's tags, `~` for one's own and `~~` for chairs), and the
 -- table of the tags that are on.
 use Rattle.std.specs.Prelude.{ℕ, Bool, true, false, ◌&&◌, ◌||◌, ◌==◌, nat_lt, List, []}

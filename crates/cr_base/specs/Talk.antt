@@ -1,3 +1,4 @@
+-- SPDX-License-Identifier: Apache-2.0 OR MIT
 -- The table of comments and of authors' responses (the HotCRP manual's): what was written on papers, and how many
 -- comments each user has written.
 use Rattle.std.specs.Prelude.{ℕ, ◌≡◌, ◌<◌, ◌+◌, List, [], length, slice_index, Option, Some, None}

@@ -1,3 +1,4 @@
+-- SPDX-License-Identifier: Apache-2.0 OR MIT
 -- The grammar of names, titles, abstracts, reviews and comments, and how long a content may be. The bounds are the
 -- server's own (docs/API.md).
 use Rattle.std.specs.Prelude.{ℕ, Bool, ◌≤◌, ◌==◌, ◌||◌, ◌&&◌, not, nat_le, List, length, IsTrue}

@@ -1,3 +1,4 @@
+-- SPDX-License-Identifier: Apache-2.0 OR MIT
 -- The table of ties: who is an author of which paper, who is declared in conflict with it, and who has bid on it
 -- (the HotCRP manual's conflicts and review preferences).
 use Rattle.std.specs.Prelude.{ℕ, Bool, fold, map, ◌||◌, ◌&&◌, nat_le, nat_lt, IsTrue, IsFalse}

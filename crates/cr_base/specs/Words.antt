@@ -1,3 +1,4 @@
+-- SPDX-License-Identifier: Apache-2.0 OR MIT
 -- The words and the numbers of phases, modes, roles, assignments and decisions, and of bids: CoCon's phases
 -- and roles, the HotCRP manual's anonymity, its kinds of review (primary, secondary, pc), its review
 -- preferences and its decisions.

@@ -1,3 +1,4 @@
+// SPDX-License-Identifier: Apache-2.0 OR MIT
 //! The accepted papers, as everyone is told of them.
 
 use crate::items::Items;

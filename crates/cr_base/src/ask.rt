@@ -1,3 +1,4 @@
+// SPDX-License-Identifier: Apache-2.0 OR MIT
 //! What a request asks for: the kind of a command or a query.
 ghost use Rattle.std.specs.Prelude.{◌≡◌};
 ghost use Rattle.cr_base.specs.Logins.{ask_reads_credentials, ask_wants_login};

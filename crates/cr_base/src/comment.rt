@@ -1,3 +1,4 @@
+// SPDX-License-Identifier: Apache-2.0 OR MIT
 //! Comments: what is kept of one, and how it is told.
 
 use crate::items::Items;

@@ -1,3 +1,4 @@
+// SPDX-License-Identifier: Apache-2.0 OR MIT
 //! Deadlines: until when what a phase opens may be done.
 ghost use Rattle.std.specs.Prelude.{◌≡◌, ◌≤◌, Some};
 ghost use Rattle.cr_base.specs.Deadlines.{deadline_in, deadline_of_seconds, is_past, no_deadlines, with_deadline};

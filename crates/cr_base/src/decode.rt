@@ -1,3 +1,4 @@
+// SPDX-License-Identifier: Apache-2.0 OR MIT
 //! Why bytes give no value.
 
 use std::alloc::AllocError;

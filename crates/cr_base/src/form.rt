@@ -1,3 +1,4 @@
+// SPDX-License-Identifier: Apache-2.0 OR MIT
 //! The form of a review.
 ghost use Rattle.std.specs.Prelude.{◌≡◌, IfOk};
 

@@ -1,3 +1,4 @@
+// SPDX-License-Identifier: Apache-2.0 OR MIT
 //! A list of what an answer tells.
 ghost use Rattle.std.specs.Prelude.{◌≡◌};
 

@@ -1,3 +1,4 @@
+// SPDX-License-Identifier: Apache-2.0 OR MIT
 //! A record whose only reader ticks. This module has nothing else, so that nothing else reads the field.
 ghost use Rattle.std.specs.Prelude.{◌≡◌};
 ghost use Rattle.cr_base.specs.Papers.{with_texts, as_withdrawn};

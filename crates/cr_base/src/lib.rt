@@ -1,3 +1,4 @@
+// SPDX-License-Identifier: Apache-2.0 OR MIT
 //! What every crate of the server speaks of: entries and their rows, commands, queries, rules and replies. Its specs
 //! define histories, tables, rules and answers.
 //!

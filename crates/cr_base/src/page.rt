@@ -1,3 +1,4 @@
+// SPDX-License-Identifier: Apache-2.0 OR MIT
 //! A paper's page: what a caller is told of one paper.
 
 use crate::bid::Bid;

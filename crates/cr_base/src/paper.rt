@@ -1,3 +1,4 @@
+// SPDX-License-Identifier: Apache-2.0 OR MIT
 //! What is kept of a paper.
 use crate::texts::Text;
 

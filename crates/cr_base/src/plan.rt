@@ -1,3 +1,4 @@
+// SPDX-License-Identifier: Apache-2.0 OR MIT
 //! What a plan of assignments is asked to be.
 ghost use Rattle.std.specs.Prelude.{◌≡◌, ◌≤◌};
 

@@ -1,3 +1,4 @@
+// SPDX-License-Identifier: Apache-2.0 OR MIT
 //! Rules, receipts and replies: what a command or a query is answered.
 
 use crate::accepted::AcceptedPapers;

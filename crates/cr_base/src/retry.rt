@@ -1,3 +1,4 @@
+// SPDX-License-Identifier: Apache-2.0 OR MIT
 //! Retries: by what a client tells that a command is one that it has sent before.
 use crate::entry::Digest;
 use std::marker::Model;

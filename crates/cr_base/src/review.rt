@@ -1,3 +1,4 @@
+// SPDX-License-Identifier: Apache-2.0 OR MIT
 //! Reviews: what is kept of one, and how it is told.
 ghost use Rattle.std.specs.Prelude.{◌≡◌, ◌==◌};
 

@@ -1,3 +1,4 @@
+// SPDX-License-Identifier: Apache-2.0 OR MIT
 //! What may stand in the fields of a row: ranges of numbers and grammars of bytes.
 ghost use Rattle.std.specs.Prelude.{◌≡◌, ◌↔◌, [], IsTrue};
 ghost use Rattle.cr_base.specs.Shapes.{FitsShape, FitsStamp, stamp_in, key_in, HasText};

@@ -1,3 +1,4 @@
+// SPDX-License-Identifier: Apache-2.0 OR MIT
 //! What a caller is to the conference, and to one paper.
 ghost use Rattle.std.specs.Prelude.{◌≡◌, true};
 ghost use Rattle.cr_base.specs.Checks.{judged, of_there, member_checks, chair_checks};

@@ -1,3 +1,4 @@
+// SPDX-License-Identifier: Apache-2.0 OR MIT
 //! Tags of papers.
 ghost use Rattle.std.specs.Prelude.{◌≡◌, ◌≤◌, ◌↔◌, drop, IsTrue, IsFalse, IfSome, IfNone, length};
 ghost use Rattle.cr_base.specs.TagTexts.{is_tilded, is_for_chairs, is_private, tag_word, is_tag as is_tag_text};

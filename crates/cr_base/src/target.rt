@@ -1,3 +1,4 @@
+// SPDX-License-Identifier: Apache-2.0 OR MIT
 //! The user whom a command names.
 
 use crate::words::Role;

@@ -1,3 +1,4 @@
+// SPDX-License-Identifier: Apache-2.0 OR MIT
 //! Bytes that contracts see as lists.
 ghost use Rattle.std.specs.Prelude.{◌≡◌, ℕ, ◌≤◌, ◌+◌, List, [], length, take};
 ghost use Rattle.std.specs.Prelude.{drop, replicate, IfOk, IfErr, IsTrue, ◌↔◌};

@@ -1,3 +1,4 @@
+-- SPDX-License-Identifier: Apache-2.0 OR MIT
 -- Each beginning of which no other entry follows, but a bulk's of more than one row, is what some allowed command adds:
 -- the one that its first entry tells, which names users where that tells their numbers.
 use Rattle.std.proofs.Common.{ℕ, Bool, true, false, cond, ◌≡◌, ◌≤◌, ◌+◌, ◌&&◌, List, [], ◌∷◌, length, eqb, zero, suc}

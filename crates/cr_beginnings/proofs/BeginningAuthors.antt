@@ -1,3 +1,4 @@
+-- SPDX-License-Identifier: Apache-2.0 OR MIT
 -- Co-authors behind a submission's entry: each is a user who is there and is told once. So whoever may stand behind it
 -- are the co-authors of some submission, where more is to come another user is free, and what a submission adds are such.
 use Rattle.std.proofs.Common.{ℕ, Bool, true, false, ◌≡◌, ◌<◌, ◌+◌, ◌||◌, List, [], ◌∷◌, ◌++◌, length, eqb, suc, refl}

@@ -1,3 +1,4 @@
+-- SPDX-License-Identifier: Apache-2.0 OR MIT
 -- Entries that are due one behind another are a beginning: the entries of one stamp, of which another follows each but
 -- the last, with as many as a group that begins so may have; and such entries are due.
 use Rattle.std.proofs.Common.{ℕ, Bool, true, false, ◌≡◌, ◌≤◌, ◌+◌, List, [], ◌∷◌, ◌++◌, length, suc, refl, sym, ap}

@@ -1,3 +1,4 @@
+-- SPDX-License-Identifier: Apache-2.0 OR MIT
 -- Whole groups of bulks: what the rows of an accepted one add is a beginning of which no other entry follows, and each
 -- such beginning of a row's kind with others behind it is what some allowed bulk adds.
 use Rattle.std.proofs.Common.{ℕ, Bool, true, false, cond, ◌≡◌, ◌≤◌, ◌+◌, ◌&&◌, List, [], ◌∷◌, ◌++◌, length, eqb, suc}

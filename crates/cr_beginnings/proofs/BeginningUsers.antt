@@ -1,3 +1,4 @@
+-- SPDX-License-Identifier: Apache-2.0 OR MIT
 -- Numbers of users of whom each is told once: of others of whom all are among them there are no more, and where these
 -- are fewer, one of them is free. So a submission has no more entries than there are users, and where it has fewer,
 -- there is another user who may be a co-author.

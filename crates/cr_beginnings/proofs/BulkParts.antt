@@ -1,3 +1,4 @@
+-- SPDX-License-Identifier: Apache-2.0 OR MIT
 -- What is accepted of a bulk: its caller may give one, and each row is accepted.
 use Rattle.std.proofs.Common.{◌≡◌, List, length, refl, ap, ◌∙◌, None, Result, Ok, Err}
 use Rattle.cr_base.specs.declared.bulk.Broken.{Broken}

@@ -1,3 +1,4 @@
+-- SPDX-License-Identifier: Apache-2.0 OR MIT
 -- The rows of a bulk that spell given commands.
 use Rattle.std.proofs.Common.{ℕ, Bool, true, false, ◌≡◌, ◌≤◌, List, [], ap, ◌∙◌, Option, Some, None, Result, Ok, Err}
 use Rattle.std.proofs.Common.{cond}

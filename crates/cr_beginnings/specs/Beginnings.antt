@@ -1,3 +1,4 @@
+-- SPDX-License-Identifier: Apache-2.0 OR MIT
 -- Beginnings of groups: which entry may follow those that an unfinished group has so far, on the history before it. So
 -- a store is read entry by entry, and no command needs to be known whose group isn't whole.
 use Rattle.std.specs.Prelude.{ℕ, Bool, true, false, not, ◌≡◌, ◌+◌, ◌++◌, ◌==◌, ◌&&◌, nat_le, nat_lt, List, [], ◌∷◌}

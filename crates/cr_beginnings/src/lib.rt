@@ -1,3 +1,4 @@
+// SPDX-License-Identifier: Apache-2.0 OR MIT
 //! Beginnings of what commands and bulks add: which entry may follow those that a group has so far.
 //!
 //! # Proved

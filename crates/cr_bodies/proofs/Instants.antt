@@ -1,3 +1,4 @@
+-- SPDX-License-Identifier: Apache-2.0 OR MIT
 -- The deadline of an instant, by its whole seconds and what is left of its nanoseconds.
 use Rattle.std.proofs.Common.{◌≡◌, ◌≢◌, ℕ, ◌/◌, ◌%◌, ℤ, pos, negsuc, ◌<ℤ◌, None, FitsSigned, w32, w64, of_z, to_z}
 use Rattle.std.proofs.Common.{to_z-of_z, unsigned_abs, refl, sym, ap, ◌∙◌, arith, ne_eqb}

@@ -1,3 +1,4 @@
+-- SPDX-License-Identifier: Apache-2.0 OR MIT
 -- A list of names read element by element.
 use Rattle.std.proofs.Common.{◌≡◌, ℕ, suc, ◌<◌, List, [], ◌∷◌, ◌++◌, length, Option, Some, None, false, nat_le, refl}
 use Rattle.std.proofs.Common.{sym, ap, ◌∙◌, arith}

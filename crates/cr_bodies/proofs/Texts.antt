@@ -1,3 +1,4 @@
+-- SPDX-License-Identifier: Apache-2.0 OR MIT
 -- Bodies that are no JSON, and bytes that aren't there.
 use Rattle.std.proofs.Common.{◌≡◌, ℕ, List, length, Some, None, refl, Bool, true, false, cond, if◌then◌else◌, IsUtf8}
 use Rattle.std.proofs.Common.{nat_lt, arith, not}

@@ -1,3 +1,4 @@
+-- SPDX-License-Identifier: Apache-2.0 OR MIT
 -- The one table of bodies: which members the body of each request must have, and which command they tell. It is the
 -- server's own (docs/API.md).
 use Rattle.std.specs.Prelude.{ℕ, List, Option, Some, None, codes}

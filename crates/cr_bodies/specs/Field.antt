@@ -1,3 +1,4 @@
+-- SPDX-License-Identifier: Apache-2.0 OR MIT
 -- What a member of a JSON object says, by its key and the kind of its value.
 use Rattle.std.specs.Prelude.{ℕ, ℤ, List, [], ◌∷◌, length, Bool, IsTrue, nat_le}
 use Rattle.std.specs.Prelude.{Option, Some, None, option_map, if◌then◌else◌}

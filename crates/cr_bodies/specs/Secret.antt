@@ -1,3 +1,4 @@
+-- SPDX-License-Identifier: Apache-2.0 OR MIT
 -- The grammar of secrets: the server's own, of bytes that a bearer token may have (RFC 6750, section 2.1).
 use Rattle.std.specs.Prelude.{ℕ, Bool, ◌==◌, ◌||◌, ◌&&◌, nat_le, List, length}
 use Rattle.std.specs.List.{list_all}

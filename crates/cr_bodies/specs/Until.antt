@@ -1,3 +1,4 @@
+-- SPDX-License-Identifier: Apache-2.0 OR MIT
 -- The phase of a deadline, and until when something may be done in it, as the members of a JSON object tell them.
 -- Which texts are times, and of which instant, `jiff` says: those of RFC 3339, and what RFC 9557 adds to them.
 use Rattle.std.specs.Prelude.{ℕ, ◌/◌, ◌%◌, ◌==◌, ℤ, pos, negsuc, List, is_some, if◌then◌else◌}

@@ -1,3 +1,4 @@
+// SPDX-License-Identifier: Apache-2.0 OR MIT
 //! The JSON body of a command.
 //!
 //! A body is a JSON object (RFC 8259) with the members that its request must have. Of equal keys the last counts, and

@@ -1,3 +1,4 @@
+// SPDX-License-Identifier: Apache-2.0 OR MIT
 //! The credentials that the value of an Authorization field tells.
 ghost use Rattle.std.specs.Prelude.{◌≡◌};
 ghost use Rattle.cr_bodies.specs.Credentials.{after_spaces, credentials, credentials_of, token_of};

@@ -1,3 +1,4 @@
+// SPDX-License-Identifier: Apache-2.0 OR MIT
 //! What a request tells besides its path and method: a JSON body, credentials, and its digest. What JSON, SHA-256 and
 //! timestamps are, `serde_json`, `sha2` and `jiff` define.
 //!

@@ -1,3 +1,4 @@
+// SPDX-License-Identifier: Apache-2.0 OR MIT
 //! The marks of requests.
 ghost use Rattle.std.specs.Prelude.{◌≡◌};
 ghost use Rattle.cr_bodies.specs.Mark as spec;

@@ -1,3 +1,4 @@
+// SPDX-License-Identifier: Apache-2.0 OR MIT
 //! The phase of a deadline, and until when something may be done in it, as a body tells them.
 ghost use Rattle.std.specs.Prelude.{◌≡◌, IfOk, IsTrue};
 ghost use Rattle.cr_base.specs.Deadlines.{IsDeadlineOrNone};

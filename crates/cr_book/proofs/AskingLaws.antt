@@ -1,3 +1,4 @@
+-- SPDX-License-Identifier: Apache-2.0 OR MIT
 -- A rule that a query breaks is its answer.
 use Rattle.std.proofs.Common.{ℕ, ◌≡◌, ◌≢◌, Option, Result, Ok, Err, ap, subst, sym}
 use Rattle.cr_base.specs.declared.command.Query.{Query}

@@ -1,3 +1,4 @@
+-- SPDX-License-Identifier: Apache-2.0 OR MIT
 -- What stays true of a book when its history grows.
 use Rattle.std.proofs.Common.{ℕ, ◌≡◌, ◌≢◌, Bool, true, false, List, ◌++◌, refl, sym, ap, subst, ◌∙◌, length, Option}
 use Rattle.std.proofs.Common.{Some, None, Result, Ok, IfSome, IsSome, IsOk, Err}

@@ -1,3 +1,4 @@
+-- SPDX-License-Identifier: Apache-2.0 OR MIT
 -- Which groups may be put behind a log: those of calls and bulks that are allowed, whose numbers are new.
 use Rattle.std.proofs.Common.{ℕ, ◌≡◌, List, [], ◌∷◌, refl, sym, ap, subst, ◌∙◌, Option, Some, None, IfSome, Ok, inl}
 use Rattle.std.proofs.Common.{inr}

@@ -1,3 +1,4 @@
+-- SPDX-License-Identifier: Apache-2.0 OR MIT
 -- What is so of a store that is read entry by entry: its rows continue a legal history exactly where each entry is due.
 use Rattle.std.proofs.Common.{ℕ, true, false, ◌≡◌, ◌≤◌, List, [], ◌∷◌, ◌++◌, length, refl, sym, ap, subst, ◌∙◌, arith}
 use Rattle.std.proofs.Common.{append_assoc, append-nil, length-append, cond, Option, Some, None, Result, Ok, Err}

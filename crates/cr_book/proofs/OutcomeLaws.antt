@@ -1,3 +1,4 @@
+-- SPDX-License-Identifier: Apache-2.0 OR MIT
 -- What a command or a bulk comes to, by what was looked up and what was judged.
 use Rattle.std.proofs.Common.{◌≡◌, true, false, List, refl, sym, ap, subst, ◌∙◌, Option, None, Some, Result, Ok, Err}
 use Rattle.std.proofs.Common.{IfOk, IsOk, IsSome}

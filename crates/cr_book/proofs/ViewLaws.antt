@@ -1,3 +1,4 @@
+-- SPDX-License-Identifier: Apache-2.0 OR MIT
 -- What the trigger table asks of a reader is what the tables of a legal history tell.
 use Rattle.std.proofs.Common.{ℕ, ◌≡◌, ap, sym, ◌∙◌, List, [], Option, Some, None}
 use Rattle.cr_base.specs.declared.row.Row.{Row}

@@ -1,3 +1,4 @@
+-- SPDX-License-Identifier: Apache-2.0 OR MIT
 -- The rows of a file, by the tables after the rows before them.
 use Rattle.std.specs.Prelude.{Some, Result}
 use Rattle.cr_base.specs.declared.bulk.BulkRow.{BulkRow}

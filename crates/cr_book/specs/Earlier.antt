@@ -1,3 +1,4 @@
+-- SPDX-License-Identifier: Apache-2.0 OR MIT
 -- What the history has under the number of a command: the look-up before judgement.
 use Rattle.std.specs.Prelude.{ℕ, Bool, List, Option, Some, None, Result, Err, if◌then◌else◌}
 use Rattle.std.specs.Str.{bytes_eq}

@@ -1,3 +1,4 @@
+-- SPDX-License-Identifier: Apache-2.0 OR MIT
 -- How many entries of a history are of a kind.
 use Rattle.std.specs.Prelude.{ℕ, Bool, ◌==◌, filter, length}
 use Rattle.cr_base.specs.declared.entry.EntryKind.{EntryKind}

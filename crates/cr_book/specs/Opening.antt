@@ -1,3 +1,4 @@
+-- SPDX-License-Identifier: Apache-2.0 OR MIT
 -- Which rows open as which history, and at which row others are bad.
 use Rattle.std.specs.Prelude.{ℕ, ◌≡◌, ◌≢◌, ◌+◌, ◌++◌, ◌⊎◌, List, length, take, slice_get, Some, Result, Ok, Err, ◌≤◌}
 use Rattle.cr_ports.specs.Count.{Rises}

@@ -1,3 +1,4 @@
+-- SPDX-License-Identifier: Apache-2.0 OR MIT
 -- What contracts see of a book, and of one that is being read.
 use Rattle.std.specs.Prelude.{List}
 use Rattle.cr_base.specs.declared.entry.Stamped.{Stamped}

@@ -1,3 +1,4 @@
+-- SPDX-License-Identifier: Apache-2.0 OR MIT
 -- What is true of every book, and what a command or a bulk did to one.
 use Rattle.std.specs.Prelude.{◌≡◌, ◌++◌, List, Option, Some, Ok, Err, IfSome}
 use Rattle.cr_base.specs.declared.command.Call.{Call}

@@ -1,3 +1,4 @@
+-- SPDX-License-Identifier: Apache-2.0 OR MIT
 -- CrashKeepsGroups: what a stop of the machine may leave of the rows that a book has kept.
 use Rattle.std.specs.Prelude.{◌≡◌, ◌⊎◌, ℕ, ◌≤◌, List, [], ◌∷◌, ◌++◌, Option, IfSome, IsTrue, Result}
 use mathlib.Core.List.{IsPrefix}

@@ -1,3 +1,4 @@
+// SPDX-License-Identifier: Apache-2.0 OR MIT
 //! Beginnings of groups: whether an entry may stand after those that an unfinished group has so far.
 ghost use Rattle.std.specs.Prelude.{◌≡◌, ◌≤◌, ◌+◌, ◌∷◌, ◌==◌, ◌↔◌, ◌&&◌, drop, if◌then◌else◌, length, true};
 ghost use Rattle.std.specs.Prelude.{[], IsTrue, Some, None};

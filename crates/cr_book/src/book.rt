@@ -1,3 +1,4 @@
+// SPDX-License-Identifier: Apache-2.0 OR MIT
 //! The book: one history, its tables and its keeper.
 ghost use Rattle.std.specs.Prelude.{◌≡◌, ◌≢◌, ◌≤◌, ◌++◌, ℕ, List, length, IsTrue};
 ghost use Rattle.std.specs.Prelude.{IfOk, IfErr, IsOk, IsSome, OnOk, OnErr, IfSome, Ok, Err, None, Some};

@@ -1,3 +1,4 @@
+// SPDX-License-Identifier: Apache-2.0 OR MIT
 //! A law over the definitions alone: what the tables tell of a user is what the history does.
 ghost use Rattle.std.specs.Prelude.{◌≡◌, ℕ, Option};
 ghost use Rattle.cr_base.specs.HistoryFacts.{standing_of};

@@ -1,3 +1,4 @@
+// SPDX-License-Identifier: Apache-2.0 OR MIT
 //! The history of a conference with its tables and its keeper: commands and bulks are judged, kept and applied, and
 //! queries answered.
 //!

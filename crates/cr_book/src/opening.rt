@@ -1,3 +1,4 @@
+// SPDX-License-Identifier: Apache-2.0 OR MIT
 //! How a store opens.
 ghost use Rattle.std.specs.Prelude.{◌≡◌, ◌++◌, List, length, IfOk, IfErr, IfSome, IsTrue, ℕ};
 ghost use Rattle.cr_base.specs.declared.row.Row.{Row};

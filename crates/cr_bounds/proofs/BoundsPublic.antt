@@ -1,3 +1,4 @@
+-- SPDX-License-Identifier: Apache-2.0 OR MIT
 -- What the bounds leave for whoever isn't on the committee, for strangers and for nobody: what is public.
 use Rattle.std.proofs.Common.{◌≡◌, ℕ, Bool, true, false, cond, List, [], ◌∷◌, ◌++◌, eqb, refl, sym, ap, subst, ◌∙◌}
 use Rattle.std.proofs.Common.{arith, ◌||◌, ◌&&◌, Option, Some, None}

@@ -1,3 +1,4 @@
+-- SPDX-License-Identifier: Apache-2.0 OR MIT
 -- Of the bids on a paper, and of who reviews it, little is shown but to chairs in no conflict with it.
 use Rattle.std.proofs.Common.{◌≡◌, ℕ, Bool, true, false, eqb, refl, sym, ap, ◌∙◌, arith, ◌||◌, ◌&&◌, Option, None}
 use Rattle.std.specs.Prelude.{not, All}

@@ -1,3 +1,4 @@
+-- SPDX-License-Identifier: Apache-2.0 OR MIT
 -- The words of the table and those of the bounds tell the same: one lemma a word.
 use Rattle.std.proofs.Common.{◌≡◌, ℕ, Bool, true, false, List, [], ◌∷◌, ◌++◌, eqb, refl, ap, ◌∙◌, arith, ◌||◌, ◌&&◌}
 use Rattle.std.proofs.Common.{Option, Some, None}

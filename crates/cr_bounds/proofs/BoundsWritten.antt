@@ -1,3 +1,4 @@
+-- SPDX-License-Identifier: Apache-2.0 OR MIT
 -- Of what is written of a paper, its forms, comments and tags, little is shown to its authors, little before the
 -- discussion, and little of who wrote it; of a response little to all but authors and those who discuss the paper;
 -- and of decisions little to all but these.

@@ -1,3 +1,4 @@
+-- SPDX-License-Identifier: Apache-2.0 OR MIT
 -- What a paper's authors are shown of its reviews before the notification, in a committee's terms, and which histories
 -- therefore look alike to them. These statements hold of every history, legal or not, and of every user, as those of
 -- ViewBounds do. What authors read while they may respond is the HotCRP manual's.

@@ -1,3 +1,4 @@
+-- SPDX-License-Identifier: Apache-2.0 OR MIT
 -- Who is shown which part of an entry: a paragraph for each part, and in it a line for each kind of entry that has it.
 -- It is a second statement of the visibility policy (the trigger table), by parts instead of by readers, in a
 -- committee's terms. Who sees titles, abstracts, authors, review preferences, reviewers, reviews, comments, tags and

@@ -1,3 +1,4 @@
+-- SPDX-License-Identifier: Apache-2.0 OR MIT
 -- The bounds of a view (the word is CoCon's, CAV 2014): who is shown each part of an entry, neither more nor less, and
 -- what is left for users who should know little. They hold of every history, legal or not, of every user and of an
 -- unauthenticated caller.

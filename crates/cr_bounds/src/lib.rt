@@ -1,3 +1,4 @@
+// SPDX-License-Identifier: Apache-2.0 OR MIT
 //! The most that a view shows. `ShownTo` says who may know what of each entry, without a look at the visibility
 //! policy.
 //!

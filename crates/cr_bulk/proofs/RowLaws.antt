@@ -1,3 +1,4 @@
+-- SPDX-License-Identifier: Apache-2.0 OR MIT
 -- Rows of records, one after another.
 use Rattle.std.proofs.Common.{◌≡◌, ◌≢◌, ℕ, ◌≤◌, List, [], ◌∷◌, ◌++◌, length, length-append, Bool, true, false}
 use Rattle.std.proofs.Common.{if◌then◌else◌, nat_le, Option, Some, None, refl, sym, ap, append_assoc, append-nil, arith}

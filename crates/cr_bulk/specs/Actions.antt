@@ -1,3 +1,4 @@
+-- SPDX-License-Identifier: Apache-2.0 OR MIT
 -- What a row does (the HotCRP manual's bulk assignment), as the program has it, and the command of a tag's row.
 use Rattle.std.specs.Prelude.{Bool, Result, Ok, Err}
 use Rattle.cr_base.specs.Bulk as bulk

@@ -1,3 +1,4 @@
+// SPDX-License-Identifier: Apache-2.0 OR MIT
 //! Bulk assignment: the rows of a file, and the command that each tells. What a record is, `csv` defines.
 //!
 //! # Proved

@@ -1,3 +1,4 @@
+-- SPDX-License-Identifier: Apache-2.0 OR MIT
 -- The small conference is legal, whatever its chairs decide.
 use Rattle.std.proofs.Common.{ℕ, Bool, true, false, List, [], ◌∷◌, ◌++◌, map, refl, sym, ◌≡◌, length, ◌&&◌, Option}
 use Rattle.std.proofs.Common.{Some, None, if◌then◌else◌, arith}

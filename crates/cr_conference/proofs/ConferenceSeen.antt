@@ -1,3 +1,4 @@
+-- SPDX-License-Identifier: Apache-2.0 OR MIT
 -- Each reader's view of the small conference is the one that is written, and those who may not know see the same of
 -- its twins.
 use Rattle.std.proofs.Common.{refl, ◌≡◌}

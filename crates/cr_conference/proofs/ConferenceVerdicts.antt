@@ -1,3 +1,4 @@
+-- SPDX-License-Identifier: Apache-2.0 OR MIT
 -- Two small conferences that differ only in decisions look the same to those who aren't told them: each looks as if
 -- nothing but what is told had been decided.
 use Rattle.std.proofs.Common.{ℕ, List, ◌≡◌, refl, sym, ap, ◌∙◌, Option, Some, None, if◌then◌else◌}

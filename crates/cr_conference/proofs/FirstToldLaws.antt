@@ -1,3 +1,4 @@
+-- SPDX-License-Identifier: Apache-2.0 OR MIT
 -- Which rule is told in each case of the small conference: by computing.
 use Rattle.std.proofs.Common.{true, [], ◌∷◌, refl, arith, Some}
 use Rattle.std.specs.Prelude.{codes}

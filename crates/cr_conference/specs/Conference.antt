@@ -1,3 +1,4 @@
+-- SPDX-License-Identifier: Apache-2.0 OR MIT
 -- A small conference, from its first registration to its close: nine users, three papers, and every kind of entry but
 -- a response. In its twin alice assigns another member to paper 1. It is a function of the digests of secrets, the
 -- mode, what the committee says that no author reads (Asides), and what the chairs decide (Verdicts).

@@ -1,3 +1,4 @@
+-- SPDX-License-Identifier: Apache-2.0 OR MIT
 -- The laws of the small conference: it is legal, and its readers' views are those that are written down. Readers who
 -- may not know who reviews a paper, what the committee says of it, or what is decided on it, have views that don't
 -- depend on these.

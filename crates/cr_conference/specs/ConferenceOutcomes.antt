@@ -1,3 +1,4 @@
+-- SPDX-License-Identifier: Apache-2.0 OR MIT
 -- What each reader sees of the small conference in the discussion, at the notification and at the close: whole views, a
 -- line an entry.
 use Rattle.std.specs.Prelude.{[], ◌∷◌, ◌++◌}

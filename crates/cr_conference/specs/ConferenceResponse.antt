@@ -1,3 +1,4 @@
+-- SPDX-License-Identifier: Apache-2.0 OR MIT
 -- The small conference with a response, which bob writes: the histories in the response, in the discussion after it,
 -- and at the notification, and what each reader sees of them, a line an entry.
 use Rattle.std.specs.Prelude.{ℕ, List, [], ◌∷◌, ◌++◌, Some, codes}

@@ -1,3 +1,4 @@
+-- SPDX-License-Identifier: Apache-2.0 OR MIT
 -- Which rule is told if more than one is broken: for each two rules that are next to each other in the list of a
 -- command, a query or a bulk, and that can be broken at once, a case of the small conference or of its twins in which
 -- both are. The comment on each case has the rules in their order. Seven pairs need more than the conference has:

@@ -1,3 +1,4 @@
+-- SPDX-License-Identifier: Apache-2.0 OR MIT
 -- Pairs of legal histories that differ in what one kind of entry hides: one user's views of both are the same, and
 -- another's aren't. Each goes on from the small conference's users and papers.
 use Rattle.std.specs.Prelude.{ℕ, ◌≡◌, ◌+◌, true, false, List, [], ◌∷◌, ◌++◌, length, take, Some, None, codes}

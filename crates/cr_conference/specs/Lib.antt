@@ -1,3 +1,4 @@
+-- SPDX-License-Identifier: Apache-2.0 OR MIT
 -- ---- the small conference with its twins, and what each reader sees of it
 pub mod Conference
 pub mod ConferenceViews

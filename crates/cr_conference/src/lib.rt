@@ -1,3 +1,4 @@
+// SPDX-License-Identifier: Apache-2.0 OR MIT
 //! A small conference, whole: its histories, the view of each kind of reader, pairs that differ only in what a reader
 //! isn't shown.
 //!

@@ -1,3 +1,4 @@
+-- SPDX-License-Identifier: Apache-2.0 OR MIT
 -- What a user's ties to a paper are behind earlier entries, from what these tell.
 use Rattle.std.proofs.Common.{ℕ, Bool, true, false, ◌≡◌, List, [], ◌∷◌, ◌||◌, refl, sym, ap, ◌∙◌, Option, fold}
 use Rattle.std.specs.List.{list_any}

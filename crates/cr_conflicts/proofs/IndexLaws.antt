@@ -1,3 +1,4 @@
+-- SPDX-License-Identifier: Apache-2.0 OR MIT
 -- What the authors by paper and by user are with one more, and how they are read.
 use Rattle.std.proofs.Common.{ℕ, Bool, List, true, false, ◌≡◌, ◌∙◌, ◌||◌, ◌&&◌, [], ◌∷◌, ◌++◌, eqb, arith, refl, sym}
 use Rattle.std.proofs.Common.{ap, subst}

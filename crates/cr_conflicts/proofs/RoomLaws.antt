@@ -1,3 +1,4 @@
+-- SPDX-License-Identifier: Apache-2.0 OR MIT
 -- Room in the table of ties, entry by entry.
 use Rattle.std.proofs.Common.{ℕ, ◌≡◌, List, ◌∷◌, map, arith, Some}
 use Rattle.std.specs.List.{filter_map}

@@ -1,3 +1,4 @@
+-- SPDX-License-Identifier: Apache-2.0 OR MIT
 -- How the table of ties keeps authors by paper and by user.
 use Rattle.std.specs.Prelude.{ℕ, ◌≡◌, Bool, ◌&&◌, [], ◌∷◌, ◌++◌, nat_le, not}
 use Rattle.std.specs.List.{list_all}

@@ -1,3 +1,4 @@
+-- SPDX-License-Identifier: Apache-2.0 OR MIT
 -- What contracts see of the table of ties.
 use Rattle.cr_base.specs.Ties.{TiesState}
 use Rattle.cr_conflicts.specs.Room.{TiesRooms}

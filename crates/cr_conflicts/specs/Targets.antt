@@ -1,3 +1,4 @@
+-- SPDX-License-Identifier: Apache-2.0 OR MIT
 -- The user whom a command names, as the rules ask of her.
 use Rattle.std.specs.Prelude.{ℕ, Bool, false, ◌==◌, Option, Some}
 use Rattle.std.specs.Option.{option_map}

@@ -1,3 +1,4 @@
+// SPDX-License-Identifier: Apache-2.0 OR MIT
 //! What earlier entries of the same command make of a user's ties to a paper.
 ghost use Rattle.std.specs.Prelude.{◌≡◌, Some, fold};
 ghost use Rattle.std.specs.List.{list_any};

@@ -1,3 +1,4 @@
+// SPDX-License-Identifier: Apache-2.0 OR MIT
 //! The rules of bidding, and of turning a conflict on and off, a function a list of checks.
 ghost use Rattle.std.specs.Prelude.{◌≡◌, true};
 ghost use Rattle.cr_base.specs.Checks.{judged, bid_checks, declare_checks, own_checks};

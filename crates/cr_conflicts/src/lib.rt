@@ -1,3 +1,4 @@
+// SPDX-License-Identifier: Apache-2.0 OR MIT
 //! The table of relations that bar a user from a paper, or bear on it: its authors, conflicts and bids.
 //!
 //! # Proved

@@ -1,3 +1,4 @@
+// SPDX-License-Identifier: Apache-2.0 OR MIT
 //! The ties of users to papers, by paper and by user.
 ghost use Rattle.std.specs.Prelude.{◌≡◌, ◌<◌, ◌+◌, ◌∷◌, [], IsTrue, OnOk, Some, length, map, is_some, slice_index};
 ghost use Rattle.std.specs.Prelude.{if◌then◌else◌};

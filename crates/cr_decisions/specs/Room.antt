@@ -1,3 +1,4 @@
+-- SPDX-License-Identifier: Apache-2.0 OR MIT
 -- Room for what a group of entries decides.
 use Rattle.std.specs.Prelude.{ℕ, List, Option, Some, None}
 use Rattle.cr_base.specs.declared.entry.Entry.{Entry}

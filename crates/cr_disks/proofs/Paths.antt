@@ -1,3 +1,4 @@
+-- SPDX-License-Identifier: Apache-2.0 OR MIT
 -- What stands at each path, once something was put at one, and whether there is room there.
 use Rattle.std.proofs.Common.{◌≡◌, ◌↔◌, ◌∙◌, ◌+◌, ◌<◌, ◌^◌, length, ℕ, List, Bool, true, false, cond, Option, Some, None}
 use Rattle.std.proofs.Common.{arith, ap, sym, subst, is_some, Bor, IsFalse, refl, String, Global}

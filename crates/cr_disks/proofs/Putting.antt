@@ -1,3 +1,4 @@
+-- SPDX-License-Identifier: Apache-2.0 OR MIT
 -- A piece over what stands at an offset, and past the end.
 use Rattle.std.proofs.Common.{◌≡◌, ◌∙◌, inl, inr, ℕ, ◌+◌, ◌-◌, ◌≤◌, min, List, [], ◌++◌, length, take, drop}
 use Rattle.std.proofs.Common.{sym, ap, arith, append_assoc, length-append, length-drop, take-append-drop}

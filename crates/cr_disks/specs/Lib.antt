@@ -1,3 +1,4 @@
+-- SPDX-License-Identifier: Apache-2.0 OR MIT
 pub mod Disk
 pub mod Past
 pub mod Held

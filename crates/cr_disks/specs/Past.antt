@@ -1,3 +1,4 @@
+-- SPDX-License-Identifier: Apache-2.0 OR MIT
 -- What a stop may leave of bytes with unsynced ranges, and what it might have left at earlier moments.
 use Rattle.std.specs.Prelude.{◌≡◌, ◌⊎◌, ℕ, List, [], ◌∷◌, length, drop}
 use mathlib.Core.Logic.{inl, inr}

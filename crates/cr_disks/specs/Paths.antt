@@ -1,3 +1,4 @@
+-- SPDX-License-Identifier: Apache-2.0 OR MIT
 -- What is at each path of disks in memory.
 use Rattle.std.specs.Prelude.{ℕ, List, [], Bool, cond, is_some, Option, None, Some, String}
 use Rattle.std.specs.Option.{option_map_or}

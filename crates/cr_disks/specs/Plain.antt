@@ -1,3 +1,4 @@
+-- SPDX-License-Identifier: Apache-2.0 OR MIT
 -- A disk in memory that keeps no record.
 use Rattle.std.specs.Prelude.{ℕ, List}
 

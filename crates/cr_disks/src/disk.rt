@@ -1,3 +1,4 @@
+// SPDX-License-Identifier: Apache-2.0 OR MIT
 //! Bytes by offset, which last once they are synced.
 ghost use Rattle.std.specs.Prelude.{◌≡◌, ◌⊎◌, ◌<◌, ◌≤◌, ◌+◌, ◌^◌, ℕ, List, Bool, length, IsTrue, IfOk, OnOk, OnErr};
 ghost use Rattle.cr_ports.specs.Stream.{FillsWithin};

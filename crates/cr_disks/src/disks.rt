@@ -1,3 +1,4 @@
+// SPDX-License-Identifier: Apache-2.0 OR MIT
 //! What opens disks by their paths.
 ghost use Rattle.std.specs.Prelude.{◌≡◌, ◌≢◌, ◌⊎◌, ◌↔◌, [], ℕ, List, IfOk, OnOk, IsFalse, IsTrue};
 ghost use Rattle.cr_ports.specs.Count.{Gains};

@@ -1,3 +1,4 @@
+// SPDX-License-Identifier: Apache-2.0 OR MIT
 //! Disks: bytes by offset, which are written and synced, with what a stop may leave of them at each moment. A disk in
 //! memory tells all of that; an adapter over a real file tells nothing.
 //!

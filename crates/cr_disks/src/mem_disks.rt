@@ -1,3 +1,4 @@
+// SPDX-License-Identifier: Apache-2.0 OR MIT
 //! Disks in memory, by their paths.
 ghost use Rattle.std.specs.Prelude.{◌≡◌, ◌≢◌, ◌⊎◌, ◌↔◌, ◌<◌, ◌≤◌, ◌+◌, ◌^◌, ◌-◌};
 ghost use Rattle.std.specs.Prelude.{[], ℕ, List, IfNone, IfOk, IfSome, IsFalse, IsTrue, OnOk, length, min};

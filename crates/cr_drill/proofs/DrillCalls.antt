@@ -1,3 +1,4 @@
+-- SPDX-License-Identifier: Apache-2.0 OR MIT
 -- What a command of a drill comes to: it has no number, so that is what Judge gives.
 use Rattle.std.proofs.Common.{◌≡◌, true, false, Option, Result, Ok, Err, refl, sym, ap, subst}
 use Rattle.std.specs.Prelude.{ℕ, is_ok}

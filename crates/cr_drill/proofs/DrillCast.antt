@@ -1,3 +1,4 @@
+-- SPDX-License-Identifier: Apache-2.0 OR MIT
 -- Who takes part in a drill has registered before the steps, and stays so.
 use Rattle.std.proofs.Common.{◌≡◌, ◌∙◌, ℕ, zero, suc, ◌+◌, ◌≤◌, ◌||◌, List, [], ◌∷◌, ◌++◌, Bool, true, false, Some}
 use Rattle.std.proofs.Common.{None, Result, Ok, Err, refl, sym, ap, subst, arith, length, if◌then◌else◌}

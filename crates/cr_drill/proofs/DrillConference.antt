@@ -1,3 +1,4 @@
+-- SPDX-License-Identifier: Apache-2.0 OR MIT
 -- What everyone is told of the conference is what its history tells.
 use Rattle.std.proofs.Common.{◌≡◌, ◌∙◌, ◌≤◌, None, length, sym, ap, arith}
 use Rattle.cr_base.specs.declared.command.Query.TheVariants as queries

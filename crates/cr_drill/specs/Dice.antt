@@ -1,3 +1,4 @@
+-- SPDX-License-Identifier: Apache-2.0 OR MIT
 -- The numbers that a drill draws: the example generator of ISO C's `rand` (7.22.2), with another modulus.
 use Rattle.std.specs.Prelude.{ℕ, ◌+◌, ◌*◌, ◌/◌, ◌%◌, max}
 use Rattle.cr_drill.specs.declared.dice.Roll.{Roll}

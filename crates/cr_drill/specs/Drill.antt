@@ -1,3 +1,4 @@
+-- SPDX-License-Identifier: Apache-2.0 OR MIT
 -- A drill: the history that Step gives for commands that are made up from a seed, and its summary (docs/API.md, the
 -- appendix).
 use Rattle.std.specs.Prelude.{ℕ, zero, suc, ◌+◌, ◌*◌, ◌/◌, ◌==◌, not, ◌&&◌, Bool}

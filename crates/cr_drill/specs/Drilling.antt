@@ -1,3 +1,4 @@
+-- SPDX-License-Identifier: Apache-2.0 OR MIT
 -- What a drill keeps true as it goes on.
 use Rattle.std.specs.Prelude.{ℕ, ◌≤◌}
 use Rattle.cr_base.specs.History.{History}

@@ -1,3 +1,4 @@
+// SPDX-License-Identifier: Apache-2.0 OR MIT
 //! Who takes part in a drill, and the commands that its steps make up.
 ghost use Rattle.std.specs.Prelude.{◌≡◌, ◌≤◌, ◌+◌, IfOk, codes};
 ghost use Rattle.cr_drill.specs.Cast.{operation_in, actor_of, cast_digest, cast_name, chair_for};

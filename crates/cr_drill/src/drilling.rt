@@ -1,3 +1,4 @@
+// SPDX-License-Identifier: Apache-2.0 OR MIT
 //! A drill: commands that are made up from a seed, given to a book in memory.
 ghost use Rattle.std.specs.Prelude.{◌≡◌, ◌≤◌, ◌<◌, ◌+◌, [], Some, IfOk, IsTrue, OnOk, length, if◌then◌else◌};
 ghost use Rattle.cr_base.specs.Bounds.{IsBoundedCommand};

@@ -1,3 +1,4 @@
+// SPDX-License-Identifier: Apache-2.0 OR MIT
 //! A drill: commands made up from a seed, given to a book in memory, and the four lines that say what they come to.
 //! `Dice` and `Cast` in specs say which commands are made up, `Drill` what their history and summary are.
 //!

@@ -1,3 +1,4 @@
+// SPDX-License-Identifier: Apache-2.0 OR MIT
 //! Files as disks, by their paths.
 ghost use Rattle.std.specs.Prelude.{◌≡◌, [], ⊤, ℕ};
 

@@ -1,3 +1,4 @@
+// SPDX-License-Identifier: Apache-2.0 OR MIT
 //! Disks over the files of the system: the trusted edge.
 //!
 //! # Proved

@@ -1,3 +1,4 @@
+-- SPDX-License-Identifier: Apache-2.0 OR MIT
 -- The last bid that a history tells of a user on a paper is the one that the table of ties has.
 use Rattle.std.proofs.Common.{ℕ, Bool, true, false, cond, ◌≡◌, List, [], ◌++◌, eqb, refl, sym, ap, ◌∙◌, ◌&&◌, Option}
 use Rattle.std.proofs.Common.{Some, None}

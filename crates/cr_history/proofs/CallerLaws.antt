@@ -1,3 +1,4 @@
+-- SPDX-License-Identifier: Apache-2.0 OR MIT
 -- Callers have registered, and who has registered has a number that a row can hold.
 use Rattle.std.proofs.Common.{ℕ, Bool, true, false, cond, ◌≡◌, List, [], ◌∷◌, ◌++◌, eqb, refl, sym, ap, ◌∙◌, arith}
 use Rattle.std.proofs.Common.{◌||◌, ◌&&◌, Option, Some, None}

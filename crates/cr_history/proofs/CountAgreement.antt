@@ -1,3 +1,4 @@
+-- SPDX-License-Identifier: Apache-2.0 OR MIT
 -- What the tables count of each user is what a history tells of her.
 use Rattle.std.proofs.Common.{ℕ, Bool, true, false, cond, ◌≡◌, ◌+◌, List, [], ◌∷◌, ◌++◌, length, eqb, refl, sym, ap}
 use Rattle.std.proofs.Common.{◌∙◌, arith, zero, suc, get_or, Option, Some, None}

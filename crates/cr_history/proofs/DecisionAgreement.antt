@@ -1,3 +1,4 @@
+-- SPDX-License-Identifier: Apache-2.0 OR MIT
 -- The decisions that a history tells are those that the table of decisions has.
 use Rattle.std.proofs.Common.{ℕ, Bool, ◌≡◌, List, ◌++◌, append_assoc, append-nil, sym, ap, ◌∙◌, Option}
 use Rattle.cr_base.specs.declared.entry.Entry.{Entry}

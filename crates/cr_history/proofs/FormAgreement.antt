@@ -1,3 +1,4 @@
+-- SPDX-License-Identifier: Apache-2.0 OR MIT
 -- Which forms the committee discusses, and which are a user's own, is what the tables have, in histories that keep
 -- the invariants.
 use Rattle.std.proofs.Common.{ℕ, Bool, true, false, cond, ◌≡◌, ◌+◌, List, [], ◌∷◌, ◌++◌, append_assoc, append-nil, eqb}

@@ -1,3 +1,4 @@
+-- SPDX-License-Identifier: Apache-2.0 OR MIT
 -- What follows of an entry from fitting the tables: its number and its name are the next and a new one, whom and what
 -- it is about is there; and where the rules let a command add it, it is within its bounds, so that it has a row.
 use Rattle.std.proofs.Common.{ℕ, Bool, true, false, cond, ◌≡◌, ◌≤◌, ◌<◌, ◌+◌, ◌-◌, List, [], ◌∷◌, ◌++◌, length, eqb}

@@ -1,3 +1,4 @@
+-- SPDX-License-Identifier: Apache-2.0 OR MIT
 -- What every legal history keeps, kept as it grows; and what the tables tell of it.
 use Rattle.std.proofs.Common.{◌++◌, refl}
 use Rattle.std.specs.List.{All}

@@ -1,3 +1,4 @@
+-- SPDX-License-Identifier: Apache-2.0 OR MIT
 -- Which users make the conflict entries of a legal history, before the bidding and from it on.
 use Rattle.std.proofs.Common.{◌≡◌, ℕ, Bool, true, false, cond, List, [], ◌∷◌, ◌++◌, refl, sym, ap, ◌∙◌, subst, ◌||◌}
 use Rattle.std.proofs.Common.{◌&&◌, Option, Some, eqb, arith, ◌+◌}

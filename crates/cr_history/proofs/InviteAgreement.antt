@@ -1,3 +1,4 @@
+-- SPDX-License-Identifier: Apache-2.0 OR MIT
 -- Who is invited to a paper by what a history tells is who is by the table of invitations.
 use Rattle.std.proofs.Common.{ℕ, Bool, true, false, ◌≡◌, List, [], ◌++◌, eqb, refl, sym, ap, ◌∙◌, ◌&&◌, Option, Some}
 use Rattle.std.proofs.Common.{None}

@@ -1,3 +1,4 @@
+-- SPDX-License-Identifier: Apache-2.0 OR MIT
 -- The forms that a history tells are those that the table of reviews has.
 use Rattle.std.proofs.Common.{ℕ, Bool, true, false, cond, ◌≡◌, List, [], ◌∷◌, ◌++◌, append_assoc, append-nil, eqb, refl}
 use Rattle.std.proofs.Common.{sym, ap, ◌∙◌, ◌&&◌, None}

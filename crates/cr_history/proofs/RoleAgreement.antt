@@ -1,3 +1,4 @@
+-- SPDX-License-Identifier: Apache-2.0 OR MIT
 -- Where each entry fits in its turn, the role that a history tells of any user is that of the accounts.
 use Rattle.std.proofs.Common.{ℕ, ◌≡◌, List, [], ◌++◌, eqb, refl, sym, ap, ◌∙◌, Option, Some, None}
 use Rattle.std.specs.Prelude.{unwrap_or}

@@ -1,3 +1,4 @@
+-- SPDX-License-Identifier: Apache-2.0 OR MIT
 -- What the rules ask of a history: the facts that they read, and whom names, papers and conflicts stand for.
 use Rattle.std.proofs.Common.{ℕ, Bool, true, false, cond, ◌≡◌, arith, List, [], ◌∷◌, length, eqb, refl}
 use Rattle.std.proofs.Common.{sym, ap, ◌∙◌, ◌||◌, ◌&&◌, Option, Some, None}

@@ -1,3 +1,4 @@
+-- SPDX-License-Identifier: Apache-2.0 OR MIT
 -- Where each entry fits in its turn, what a history tells of a paper's reviewers is what the table of seats has.
 use Rattle.std.proofs.Common.{ℕ, Bool, true, false, cond, ◌≡◌, ◌≤◌, ◌+◌, List, [], ◌∷◌, ◌++◌, length, eqb, refl, sym}
 use Rattle.std.proofs.Common.{ap, subst, ◌∙◌, ◌&&◌, ◌||◌, arith, append_assoc, append-nil, Option, Some}

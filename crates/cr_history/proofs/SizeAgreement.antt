@@ -1,3 +1,4 @@
+-- SPDX-License-Identifier: Apache-2.0 OR MIT
 -- Where each entry fits in its turn, the tables hold no more accounts and papers than rows can number, and ties and
 -- seats at no others.
 use Rattle.std.proofs.Common.{ℕ, ◌≤◌, ◌-◌, List, [], ◌∷◌, length, refl, arith, length-append, IsTrue}

@@ -1,3 +1,4 @@
+-- SPDX-License-Identifier: Apache-2.0 OR MIT
 -- Whoever has written a form stays a reviewer of the paper, under the label under which she wrote it.
 use Rattle.std.proofs.Common.{ℕ, Bool, true, false, ◌≡◌, List, [], ◌∷◌, ◌++◌, eqb, refl, sym, ap, subst, ◌∙◌, ◌&&◌}
 use Rattle.std.proofs.Common.{Option, Some, None}

@@ -1,3 +1,4 @@
+-- SPDX-License-Identifier: Apache-2.0 OR MIT
 -- The tables and rows of more entries; and where each fits in its turn, how a user stands by a history is how she
 -- stands by its tables.
 use Rattle.std.proofs.Common.{ℕ, Bool, ◌≡◌, [], ◌∷◌, ◌++◌, ap, Option}

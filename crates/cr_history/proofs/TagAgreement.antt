@@ -1,3 +1,4 @@
+-- SPDX-License-Identifier: Apache-2.0 OR MIT
 -- The tags that a history leaves on at a paper are those that the table of tags has.
 use Rattle.std.proofs.Common.{ℕ, Bool, true, false, cond, ◌≡◌, List, ◌++◌, eqb, refl, sym, ap, ◌∙◌}
 use Rattle.std.specs.Prelude.{fold}

@@ -1,3 +1,4 @@
+-- SPDX-License-Identifier: Apache-2.0 OR MIT
 -- The comments and the responses that a history tells are those that the table of comments has.
 use Rattle.std.proofs.Common.{ℕ, Bool, true, false, ◌≡◌, ◌+◌, List, ◌++◌, length, length-append, append_assoc}
 use Rattle.std.proofs.Common.{append-nil, eqb, refl, sym, ap, ◌∙◌, arith, Option, Some, None}

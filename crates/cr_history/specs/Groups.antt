@@ -1,3 +1,4 @@
+-- SPDX-License-Identifier: Apache-2.0 OR MIT
 -- What an accepted command may add to a history, and a row of an accepted bulk, by the rules on it.
 use Rattle.std.specs.Prelude.{ℕ, true, ◌≡◌, ◌≤◌, ◌==◌, List, [], ◌∷◌, length, IsTrue, IsFalse}
 use Rattle.std.specs.List.{AllByRecursion}

@@ -1,3 +1,4 @@
+-- SPDX-License-Identifier: Apache-2.0 OR MIT
 -- Invariants: what is so of each entry of a legal history, on the history before it, and of the history as a whole.
 use Rattle.std.specs.Prelude.{ℕ, Bool, false, ◌≡◌, ◌==◌, ◌<◌, ◌+◌, ◌&&◌, ◌||◌, not, [], ◌∷◌}
 use Rattle.std.specs.Prelude.{◌++◌, length, nat_le, Some, None, IsTrue, IsFalse, if◌then◌else◌}

@@ -1,3 +1,4 @@
+-- SPDX-License-Identifier: Apache-2.0 OR MIT
 -- The laws of histories: what the tables tell of them, and what is kept as they grow.
 use Rattle.std.specs.Prelude.{ℕ, ◌≡◌, ◌==◌, List, [], ◌++◌, length, map, Option}
 use Rattle.std.specs.List.{list_any}

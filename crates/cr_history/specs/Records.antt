@@ -1,3 +1,4 @@
+-- SPDX-License-Identifier: Apache-2.0 OR MIT
 -- How many records the tables keep of one paper (form: src/schema.sql of HotCRP, where a conflict or an author, a
 -- preference, a review, a document and a tag are rows with their paper's number), and how many entries of a history
 -- are on it.

@@ -1,3 +1,4 @@
+// SPDX-License-Identifier: Apache-2.0 OR MIT
 //! The facts of a history: what the tables keep of it, and what stays true as it grows, whatever its users see.
 //!
 //! # Proved

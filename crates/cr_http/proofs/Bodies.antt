@@ -1,3 +1,4 @@
+-- SPDX-License-Identifier: Apache-2.0 OR MIT
 -- A body that is read beside the buffer, into a block of its own.
 use Rattle.std.proofs.Common.{◌≡◌, ◌∙◌, ℕ, ◌+◌, ◌<◌, ◌≤◌, List, [], ◌++◌, length, take, drop, Option, refl, sym, ap}
 use Rattle.std.proofs.Common.{inl, inr, arith, append_assoc, append-nil, length-append, length-drop, length-take}

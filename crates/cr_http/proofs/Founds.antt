@@ -1,3 +1,4 @@
+-- SPDX-License-Identifier: Apache-2.0 OR MIT
 -- What stands at the front of a text stays there however the text goes on.
 use Rattle.std.proofs.Common.{◌≡◌, ℕ, ◌-◌, ◌<◌, ◌≤◌, List, ◌++◌, length, take, drop, Option, Some, None, Bool, true}
 use Rattle.std.proofs.Common.{false, refl, sym, ◌∙◌, ap, subst, arith, inl, inr, length-append, length-drop}

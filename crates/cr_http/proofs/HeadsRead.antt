@@ -1,3 +1,4 @@
+-- SPDX-License-Identifier: Apache-2.0 OR MIT
 -- What was read tells whether the answer is one to HEAD.
 use Rattle.std.proofs.Common.{◌≡◌, ◌∙◌, ℕ, List, length, take, drop, Option, Some, None, Bool, true, false, sym, ap}
 use Rattle.std.proofs.Common.{subst, inl, inr}

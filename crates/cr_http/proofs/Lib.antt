@@ -1,3 +1,4 @@
+-- SPDX-License-Identifier: Apache-2.0 OR MIT
 pub mod Offsets
 pub mod Windows
 pub mod Searching

@@ -1,3 +1,4 @@
+-- SPDX-License-Identifier: Apache-2.0 OR MIT
 use Rattle.std.proofs.Common.{◌≡◌, ◌∙◌, ℕ, List, [], ◌++◌, ◌<◌, length, Option, Some, None, refl, sym, ap, subst, inl}
 use Rattle.std.proofs.Common.{inr, append_assoc, append-nil}
 use Rattle.cr_ports.specs.Stream.{and_left}

@@ -1,3 +1,4 @@
+-- SPDX-License-Identifier: Apache-2.0 OR MIT
 -- A body goes from a source to where it stays.
 use Rattle.std.specs.Prelude.{◌≡◌, ◌≤◌, ◌<◌, ℕ, List, ◌++◌, length, take, drop, Option}
 use Rattle.cr_http.specs.declared.fill_body.BodyFill.{BodyFill}

@@ -1,3 +1,4 @@
+-- SPDX-License-Identifier: Apache-2.0 OR MIT
 -- The bytes that a buffer holds.
 use Rattle.std.specs.Prelude.{◌≡◌, ◌≤◌, ℕ, List, take, drop, vec_len}
 use Rattle.cr_http.specs.declared.buffer.Buffer.{Buffer}

@@ -1,3 +1,4 @@
+-- SPDX-License-Identifier: Apache-2.0 OR MIT
 -- Where a whole request lies in the bytes that were read.
 use Rattle.std.specs.Prelude.{ℕ, ◌≤◌, List, length, map, take, drop, slice_range, Option, Some, None}
 use Rattle.std.specs.Option.{option_map}

@@ -1,3 +1,4 @@
+-- SPDX-License-Identifier: Apache-2.0 OR MIT
 -- What is at the front of a text that is the whole rest of a stream: a request, a refusal or an end. A head is
 -- what `httparse` reads as one; which refusal comes first, and the limits, are the server's own (docs/API.md).
 use Rattle.std.specs.Prelude.{◌≡◌, ◌⊎◌, ℕ, [], ◌==◌, nat_lt, nat_le, List, length, take, drop, slice_range}

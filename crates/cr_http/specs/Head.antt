@@ -1,3 +1,4 @@
+-- SPDX-License-Identifier: Apache-2.0 OR MIT
 -- The parts of a head that are read, and what they say of the body (RFC 9110, sections 5.1, 7.2
 -- and 8.6; RFC 9112, section 6).
 use Rattle.std.specs.Prelude.{ℕ, ◌≤◌, List, [], ◌∷◌, length, map, filter, Bool}

@@ -1,3 +1,4 @@
+-- SPDX-License-Identifier: Apache-2.0 OR MIT
 -- Where the head of a request lies in a text: after the empty lines at its front, up to the first empty line
 -- (RFC 9112, sections 2.1 and 2.2).
 use Rattle.std.specs.Prelude.{ℕ, ◌+◌, List, [], ◌∷◌, take, drop, Option, Some, None, ◌&&◌, ◌==◌, if◌then◌else◌}

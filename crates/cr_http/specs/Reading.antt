@@ -1,3 +1,4 @@
+-- SPDX-License-Identifier: Apache-2.0 OR MIT
 -- What one call of `read_request` says.
 use Rattle.std.specs.Prelude.{◌≡◌, ◌⊎◌, ◌≤◌, ℕ, List, ◌++◌, drop, slice_range, Option, Some, None, IsSomeAnd, ⊤}
 use Rattle.httparse.specs.declared.spans.HeaderSpan.{HeaderSpan}

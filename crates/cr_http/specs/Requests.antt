@@ -1,3 +1,4 @@
+-- SPDX-License-Identifier: Apache-2.0 OR MIT
 -- The requests that a text spells, one after another (RFC 9112, section 9.3.2), and how it ends.
 use Rattle.std.specs.Prelude.{◌≡◌, ℕ, ◌+◌, List, [], ◌∷◌, Bool, false, MatchBool, ⊤}
 use Rattle.cr_http.specs.declared.refusal.Refusal.{Refusal}

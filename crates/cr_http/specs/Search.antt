@@ -1,3 +1,4 @@
+-- SPDX-License-Identifier: Apache-2.0 OR MIT
 -- Where the search for the end of a head stands, and what it says of however the bytes go on.
 use Rattle.std.specs.Prelude.{◌≡◌, ℕ, ◌<◌, ◌≤◌, List, ◌++◌, length, drop, Option, Some, None}
 use Rattle.cr_http.specs.HeadRange.{empty_line_len, blank_end_from, head_end_from, starting_at, window, head_at}

@@ -1,3 +1,4 @@
+-- SPDX-License-Identifier: Apache-2.0 OR MIT
 -- Whether an answer to what stands at the front of a text is one to HEAD, and so has no content (RFC 9110, section
 -- 9.3.2).
 use Rattle.std.specs.Prelude.{◌≡◌, ◌⊎◌, ℕ, [], nat_lt, List, slice_range, Bool, false, Option, Some, None, MatchBool}

@@ -1,3 +1,4 @@
+// SPDX-License-Identifier: Apache-2.0 OR MIT
 //! The bytes of a connection that were read and not yet used, in one block that grows.
 ghost use Rattle.std.specs.Prelude.{◌≡◌, ◌≢◌, ◌≤◌, ◌<◌, ◌+◌, ◌-◌, ◌++◌, [], length};
 ghost use Rattle.std.specs.Prelude.{take, drop, replicate, vec_len, IfOk, IfErr, OnOk};

@@ -1,3 +1,4 @@
+// SPDX-License-Identifier: Apache-2.0 OR MIT
 //! The head of a request, lent from the bytes that were read.
 ghost use Rattle.std.specs.Prelude.{◌≡◌, ◌≤◌, ◌∷◌, ℕ, List, [], length, map, take, All, IfSome, IfNone};
 ghost use Rattle.httparse.specs.Grammar.{RequestHead, ReadsRequest};

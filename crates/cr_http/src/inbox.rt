@@ -1,3 +1,4 @@
+// SPDX-License-Identifier: Apache-2.0 OR MIT
 //! What a connection has read: the request at hand, lent, and the bytes after it.
 ghost use Rattle.std.specs.Prelude.{◌≡◌, [], IsSome, IfSome, length, unwrap_or};
 ghost use Rattle.cr_http.specs.Body.{IsBody};

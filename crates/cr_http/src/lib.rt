@@ -1,3 +1,4 @@
+// SPDX-License-Identifier: Apache-2.0 OR MIT
 //! Requests out of a stream of bytes (RFC 9112), however it is cut into pieces. Head and body are lent from the
 //! connection's [`Inbox`].
 //!

@@ -1,3 +1,4 @@
+// SPDX-License-Identifier: Apache-2.0 OR MIT
 //! Refusals by name, each with its status.
 
 /// Why a connection is closed before a whole request was read. Its answer is the connection's last

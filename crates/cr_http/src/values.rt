@@ -1,3 +1,4 @@
+// SPDX-License-Identifier: Apache-2.0 OR MIT
 //! The values of the fields of one name, in order.
 ghost use Rattle.std.specs.Prelude.{◌≡◌, ◌∷◌, ℕ, List, [], length, All, IfSome, MatchOption};
 ghost use Rattle.httparse.specs.Spans.{IsHeaderWithin};

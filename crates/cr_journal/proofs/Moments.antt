@@ -1,3 +1,4 @@
+-- SPDX-License-Identifier: Apache-2.0 OR MIT
 -- How a run of device calls goes on.
 use Rattle.std.proofs.Common.{⊎_elim, inr, ℕ, List, arith}
 use Rattle.cr_ports.specs.Stopping.{LeavesOnly}

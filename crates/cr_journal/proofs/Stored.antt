@@ -1,3 +1,4 @@
+-- SPDX-License-Identifier: Apache-2.0 OR MIT
 -- The rows of a file that is a journal are those of its groups.
 use Rattle.std.proofs.Common.{◌≡◌, ◌≢◌, ℕ, zero, suc, ◌≤◌, ◌+◌, List, [], ◌∷◌, ◌++◌, Bool, true, false, length, map}
 use Rattle.std.proofs.Common.{◌==◌, Some, refl, sym, ap, ◌∙◌}

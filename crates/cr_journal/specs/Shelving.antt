@@ -1,3 +1,4 @@
+-- SPDX-License-Identifier: Apache-2.0 OR MIT
 -- A shelf of journals, as contracts see it.
 use Rattle.std.specs.Prelude.{◌≢◌, ℕ, List, [], Bool, true, false, Option, None}
 use Rattle.std.specs.Option.{option_map_or}

@@ -1,3 +1,4 @@
+// SPDX-License-Identifier: Apache-2.0 OR MIT
 //! The journal: an append in four device calls, and two before them after one that failed in its third or fourth.
 ghost use Rattle.std.specs.Prelude.{◌≡◌, ◌≤◌, ◌<◌, ◌+◌, ◌^◌, ◌++◌};
 ghost use Rattle.std.specs.Prelude.{[], ◌∷◌, false, true, List, ℕ, length, OnOk, OnErr, IsTrue};

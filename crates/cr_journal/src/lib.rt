@@ -1,3 +1,4 @@
+// SPDX-License-Identifier: Apache-2.0 OR MIT
 //! A keeper and a shelf over disks: groups of rows in a file that only grows, each committed by one byte. What was
 //! kept is found after a stop at any moment, also if unsynced writes are torn.
 //!

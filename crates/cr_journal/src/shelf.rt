@@ -1,3 +1,4 @@
+// SPDX-License-Identifier: Apache-2.0 OR MIT
 //! A shelf of journals over disks.
 ghost use Rattle.std.specs.Prelude.{◌≡◌, ◌≢◌, ◌⊎◌, ◌+◌, ◌≤◌, ℕ, [], List, Some, Err};
 ghost use Rattle.std.specs.Prelude.{IfOk, IfSome, IsTrue, IsFalse};

@@ -1,3 +1,4 @@
+// SPDX-License-Identifier: Apache-2.0 OR MIT
 //! What a journal is between two calls.
 ghost use Rattle.std.specs.Prelude.{◌≡◌};
 

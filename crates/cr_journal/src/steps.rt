@@ -1,3 +1,4 @@
+// SPDX-License-Identifier: Apache-2.0 OR MIT
 //! The device calls of an append, two at a time, each with what a stop at any moment of them leaves.
 ghost use Rattle.std.specs.Prelude.{◌≡◌, ◌≤◌, ◌<◌, ◌+◌, ◌^◌, [], ◌∷◌, List, ℕ, length, OnOk, IsTrue};
 ghost use Rattle.cr_disks.specs.Disk.{Only, Holds, HasCause};

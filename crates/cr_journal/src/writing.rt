@@ -1,3 +1,4 @@
+// SPDX-License-Identifier: Apache-2.0 OR MIT
 //! The block of a group: its payload after its length, and a closed gate.
 ghost use Rattle.std.specs.Prelude.{◌≡◌, ◌++◌, ◌<◌, ◌≤◌, ◌^◌, [], ◌∷◌, length, drop, IfOk, OnOk};
 ghost use Rattle.std.specs.List.{flat_map};

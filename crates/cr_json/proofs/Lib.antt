@@ -1,3 +1,4 @@
+-- SPDX-License-Identifier: Apache-2.0 OR MIT
 pub mod Lists
 pub mod Objects
 pub mod Plain

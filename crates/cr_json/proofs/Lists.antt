@@ -1,3 +1,4 @@
+-- SPDX-License-Identifier: Apache-2.0 OR MIT
 -- A list appended item by item.
 use Rattle.std.proofs.Common.{◌≡◌, Bool, true, ◌∙◌, ℕ, ◌≤◌, List, ◌++◌, sym, ap, append_assoc}
 use Rattle.std.specs.Prelude.{flat_map, drop, map}

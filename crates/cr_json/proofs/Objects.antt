@@ -1,3 +1,4 @@
+-- SPDX-License-Identifier: Apache-2.0 OR MIT
 -- An object written member by member.
 use Rattle.std.proofs.Common.{◌≡◌, Bool, true, false, ◌∙◌, ℕ, List, [], ◌∷◌, ◌++◌, refl, sym, ap, append_assoc}
 use Rattle.std.proofs.Common.{append-nil, codes, Result, Ok, Err}

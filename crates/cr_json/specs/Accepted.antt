@@ -1,3 +1,4 @@
+-- SPDX-License-Identifier: Apache-2.0 OR MIT
 -- An accepted paper, as the list of them tells it.
 use Rattle.std.specs.Prelude.{ℕ, List, ◌++◌, Some, codes, decimal}
 use Rattle.json.specs.Print.{quoted}

@@ -1,3 +1,4 @@
+-- SPDX-License-Identifier: Apache-2.0 OR MIT
 -- Who bids on a paper and who reviews it, as its page tells.
 use Rattle.std.specs.Prelude.{ℕ, List, ◌++◌, Some, codes, map}
 use Rattle.std.specs.Option.{option_map}

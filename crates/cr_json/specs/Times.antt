@@ -1,3 +1,4 @@
+-- SPDX-License-Identifier: Apache-2.0 OR MIT
 -- The day and the time of a moment in UTC, and the text of a time (RFC 3339, section 5.6). Which day it is, the
 -- Gregorian calendar says, counted on from 1970-01-01.
 use Rattle.std.specs.Prelude.{ℕ, zero, suc, ◌+◌, ◌-◌, ◌/◌, ◌%◌, nat_lt, pos, unsigned_abs, List, [], ◌∷◌, ◌++◌}

@@ -1,3 +1,4 @@
+// SPDX-License-Identifier: Apache-2.0 OR MIT
 //! The deadlines of phases.
 ghost use Rattle.cr_json.specs.Deadlines.{deadline_members};
 ghost use Rattle.cr_json.specs.Json.{AddsMembers};

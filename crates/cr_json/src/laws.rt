@@ -1,3 +1,4 @@
+// SPDX-License-Identifier: Apache-2.0 OR MIT
 //! Theorems over the definitions.
 ghost use Rattle.std.specs.Prelude.{◌≡◌, codes};
 ghost use Rattle.cr_json.specs.Times.{time_text};

@@ -1,3 +1,4 @@
+// SPDX-License-Identifier: Apache-2.0 OR MIT
 //! One writer of JSON: objects, lists, and the values of cr_base in them, appended to a buffer.
 //!
 //! # Proved

@@ -1,3 +1,4 @@
+// SPDX-License-Identifier: Apache-2.0 OR MIT
 //! Lists of JSON (RFC 8259, section 5).
 ghost use Rattle.std.specs.Prelude.{true, map};
 ghost use Rattle.cr_json.specs.Put.{Appends, Takes};

@@ -1,3 +1,4 @@
+// SPDX-License-Identifier: Apache-2.0 OR MIT
 //! Objects of JSON, written member by member (RFC 8259, section 4).
 ghost use Rattle.std.specs.Prelude.{◌≡◌, ◌+◌, ◌*◌, ◌++◌, true, false, codes, decimal};
 ghost use Rattle.std.specs.Prelude.{length, map, IfOk, OnOk, Some, option_map};

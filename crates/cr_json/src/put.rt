@@ -1,3 +1,4 @@
+// SPDX-License-Identifier: Apache-2.0 OR MIT
 //! Bytes appended to a buffer, which grows where it has to.
 ghost use Rattle.std.specs.Prelude.{length, decimal};
 ghost use Rattle.cr_json.specs.Put.{Appends, Takes};

@@ -1,3 +1,4 @@
+// SPDX-License-Identifier: Apache-2.0 OR MIT
 //! Strings of JSON (RFC 8259, section 7). A name is bytes here, and the writer of the crate `json` takes text.
 ghost use Rattle.std.specs.Prelude.{◌≡◌, ◌<◌, ◌≤◌, ◌+◌, ◌-◌, ◌*◌, length, IfOk, IsOk};
 ghost use Rattle.std.specs.Char.{digit_char};

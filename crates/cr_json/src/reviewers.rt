@@ -1,3 +1,4 @@
+// SPDX-License-Identifier: Apache-2.0 OR MIT
 //! Who bids on a paper and who reviews it.
 
 use crate::object::Object;

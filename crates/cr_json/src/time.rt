@@ -1,3 +1,4 @@
+// SPDX-License-Identifier: Apache-2.0 OR MIT
 //! Times in UTC, as RFC 3339 (section 5.6) writes them, to the second.
 ghost use Rattle.std.specs.Prelude.{◌≡◌, length};
 ghost use Rattle.cr_json.specs.Put.{Appends, Takes};

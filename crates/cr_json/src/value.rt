@@ -1,3 +1,4 @@
+// SPDX-License-Identifier: Apache-2.0 OR MIT
 //! Values of JSON (RFC 8259, section 3).
 ghost use Rattle.std.specs.Prelude.{◌≡◌, List, ℕ, decimal, map};
 ghost use Rattle.json.specs.Print.{quoted};

@@ -1,3 +1,4 @@
+-- SPDX-License-Identifier: Apache-2.0 OR MIT
 -- The paper that a command names goes on as an option, so each rule is tested by the table that has it.
 use Rattle.std.proofs.Common.{ℕ, Bool, true, false, cond, ◌≡◌, ◌==◌, List, refl, sym, ap, ◌∙◌, Option, Some, None}
 use Rattle.std.proofs.Common.{Result, Ok, Err}

@@ -1,3 +1,4 @@
+-- SPDX-License-Identifier: Apache-2.0 OR MIT
 -- What is written on a paper, by reads of the tables.
 use Rattle.std.proofs.Common.{ℕ, Bool, true, false, ◌≡◌, ◌+◌, length, refl, sym, ap, ◌∙◌, Option, Some, None, Result}
 use Rattle.std.proofs.Common.{Ok}

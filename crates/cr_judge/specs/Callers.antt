@@ -1,3 +1,4 @@
+-- SPDX-License-Identifier: Apache-2.0 OR MIT
 -- Which callers may give which commands here, and what a command may name.
 use Rattle.std.specs.Prelude.{◌≤◌, length, IsSome}
 use Rattle.cr_base.specs.declared.resolved.ResolvedCall.{ResolvedCall}

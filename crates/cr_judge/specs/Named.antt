@@ -1,3 +1,4 @@
+-- SPDX-License-Identifier: Apache-2.0 OR MIT
 -- What a command names, and what the rules read of it, by reads of the tables; the caller is `maker`.
 use Rattle.std.specs.Prelude.{ℕ, Bool, ◌==◌, List, Option, Some, None, if◌then◌else◌}
 use Rattle.std.specs.List.{list_any}

@@ -1,3 +1,4 @@
+-- SPDX-License-Identifier: Apache-2.0 OR MIT
 -- The rows of a bulk by the tables: their commands, the entries that they draw, and what each is judged on.
 use Rattle.std.specs.Prelude.{[], ◌∷◌, Some, Result, Ok, Err}
 use Rattle.cr_base.specs.declared.command.Command.{Command}

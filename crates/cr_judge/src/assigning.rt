@@ -1,3 +1,4 @@
+// SPDX-License-Identifier: Apache-2.0 OR MIT
 //! What is judged of a paper, and of a user who is named with it: conflicts, bids, assignments and invitations.
 ghost use Rattle.std.specs.Prelude.{◌≡◌};
 ghost use Rattle.cr_base.specs.Calls.{resolved_by};

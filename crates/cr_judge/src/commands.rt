@@ -1,3 +1,4 @@
+// SPDX-License-Identifier: Apache-2.0 OR MIT
 //! What is judged by the tables.
 ghost use Rattle.std.specs.Prelude.{◌≡◌, ◌≤◌, ◌==◌, IfOk, IsTrue, length, if◌then◌else◌};
 ghost use Rattle.cr_base.specs.Calls.{resolved_by};

@@ -1,3 +1,4 @@
+// SPDX-License-Identifier: Apache-2.0 OR MIT
 //! Judgement by the tables: what a command comes to, or the first rule that it breaks, and so for each row of a bulk.
 //! No table changes.
 //!

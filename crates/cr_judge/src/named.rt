@@ -1,3 +1,4 @@
+// SPDX-License-Identifier: Apache-2.0 OR MIT
 //! What a command names, as the rules ask of it: a paper, and a user, by the tables behind earlier entries of the same
 //! bulk, none of which makes a paper, a user or an author, or changes a role or the phase. Where there is no such
 //! paper or no such user, none goes on in its place, and the rules tell that.

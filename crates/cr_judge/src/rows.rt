@@ -1,3 +1,4 @@
+// SPDX-License-Identifier: Apache-2.0 OR MIT
 //! What is judged of a bulk: whether its caller may send one, and of each row behind those before it.
 ghost use Rattle.std.specs.Prelude.{◌≡◌, [], ◌∷◌, ◌++◌, Bool, IfOk, Some, None};
 ghost use Rattle.cr_base.specs.Bulk.{bulk_checks, resolved_of_row};

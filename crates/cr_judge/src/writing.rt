@@ -1,3 +1,4 @@
+// SPDX-License-Identifier: Apache-2.0 OR MIT
 //! What is judged of what is written on a paper, reviews, what authors respond to them, comments and tags, and of what
 //! is decided of it.
 ghost use Rattle.std.specs.Prelude.{◌≡◌};

@@ -1,3 +1,4 @@
+-- SPDX-License-Identifier: Apache-2.0 OR MIT
 -- Values that carry the number of their paper: what is read of a paper and how one more comes in, told of the values
 -- alone.
 use Rattle.std.proofs.Common.{ℕ, Bool, true, false, cond, ◌≡◌, List, [], ◌∷◌, ◌++◌, eqb, refl, ap, ◌∙◌, zero, suc}

@@ -1,3 +1,4 @@
+-- SPDX-License-Identifier: Apache-2.0 OR MIT
 -- Sums that are filled up with zeros.
 use Rattle.std.proofs.Common.{ℕ, ◌≡◌, ◌+◌, ◌-◌, List, [], ◌∷◌, ◌++◌, length, get_or, set, replicate, append-nil, refl}
 use Rattle.std.proofs.Common.{ap, ◌∙◌, arith, zero, suc}

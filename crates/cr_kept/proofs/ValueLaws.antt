@@ -1,3 +1,4 @@
+-- SPDX-License-Identifier: Apache-2.0 OR MIT
 -- The flat list out of drawers, where one paper has other values than it had.
 use Rattle.std.proofs.Common.{ℕ, Bool, true, false, ◌≡◌, ◌≤◌, ◌<◌, ◌+◌, List, [], ◌∷◌, ◌++◌, length, set, sym, ap, ◌∙◌}
 use Rattle.std.proofs.Common.{arith, zero, suc}

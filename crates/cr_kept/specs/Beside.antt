@@ -1,3 +1,4 @@
+-- SPDX-License-Identifier: Apache-2.0 OR MIT
 -- Room for values of papers, in a table that keeps a sum for each user beside them.
 use Rattle.std.specs.Prelude.{ℕ, List, [], nat_le, if◌then◌else◌}
 

@@ -1,3 +1,4 @@
+-- SPDX-License-Identifier: Apache-2.0 OR MIT
 -- The values of all papers, out of each paper's own, and the same with another value of one of them.
 use Rattle.std.specs.Prelude.{ℕ, zero, suc, ◌+◌, ◌==◌, List, [], ◌∷◌, ◌++◌, nat_lt, map, filter, if◌then◌else◌}
 use Rattle.cr_base.specs.declared.filed.Filed.{Filed}

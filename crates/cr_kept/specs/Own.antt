@@ -1,3 +1,4 @@
+-- SPDX-License-Identifier: Apache-2.0 OR MIT
 -- Values that carry the number of their paper, each filed under it.
 use Rattle.std.specs.Prelude.{ℕ, ◌==◌, List, map, IsTrue}
 use Rattle.std.specs.List.{list_all}

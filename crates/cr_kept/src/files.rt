@@ -1,3 +1,4 @@
+// SPDX-License-Identifier: Apache-2.0 OR MIT
 //! Values of papers, each paper's own together.
 ghost use Rattle.std.specs.Prelude.{◌≡◌, ◌≤◌, ◌<◌, [], OnOk, length, slice_get, slice_index, set, insert, remove};
 ghost use Rattle.std.specs.Option.{option_copied, IfSome};

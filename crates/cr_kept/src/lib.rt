@@ -1,3 +1,4 @@
+// SPDX-License-Identifier: Apache-2.0 OR MIT
 //! What several tables are made of: values kept by paper, and a sum for each user.
 //!
 //! # Proved

@@ -1,3 +1,4 @@
+-- SPDX-License-Identifier: Apache-2.0 OR MIT
 -- A wish that is accepted is a command or a bulk that is allowed and that Judge accepts; and such a one draws what it
 -- adds.
 use Rattle.std.proofs.Common.{Bool, true, false, ℕ, ◌≡◌, List, refl, ap, subst, ◌∙◌, Option, Some, None, Result, Ok}

@@ -1,3 +1,4 @@
+-- SPDX-License-Identifier: Apache-2.0 OR MIT
 -- A run of each history that may be its end: each wish of the group's stands in it as it was, and between them what
 -- others did by that history.
 use Rattle.std.proofs.Common.{ℕ, Bool, true, false, ◌≡◌, ◌||◌, suc, List, [], ◌∷◌, ◌++◌, length, refl, sym, ap}

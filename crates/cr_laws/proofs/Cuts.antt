@@ -1,3 +1,4 @@
+-- SPDX-License-Identifier: Apache-2.0 OR MIT
 -- A legal history cut where a command ends: what stands ahead is legal, and moves lead on from it; and what a command
 -- adds ends where its marks say.
 use Rattle.std.proofs.Common.{Bool, true, false, ◌≡◌, List, [], ◌∷◌, ◌++◌, refl, sym, ap, subst}

@@ -1,3 +1,4 @@
+-- SPDX-License-Identifier: Apache-2.0 OR MIT
 -- A wish that was accepted is accepted, filled in, on the history that is filled in: who gives it is the same, and it
 -- adds what it added, filled in.
 use Rattle.std.proofs.Common.{ℕ, Bool, ◌≡◌, suc, List, [], ◌∷◌, ◌++◌, length, refl, sym, ap, subst, ◌∙◌}

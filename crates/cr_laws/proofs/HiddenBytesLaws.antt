@@ -1,3 +1,4 @@
+-- SPDX-License-Identifier: Apache-2.0 OR MIT
 -- What a user is answered doesn't tell what she isn't shown, nor what stands in forms of which she is told nothing.
 use Rattle.std.proofs.Common.{◌≡◌, ◌∙◌, ℕ, List, [], ◌∷◌, ◌++◌, map, Bool, true, false, Option, refl, sym}
 use Rattle.std.proofs.lemmas.List.{map-append}

@@ -1,3 +1,4 @@
+-- SPDX-License-Identifier: Apache-2.0 OR MIT
 -- Whoever has registered can call: by her name and the digest of her secret. And nobody has the number that is given
 -- next.
 use Rattle.std.proofs.Common.{ℕ, Bool, true, false, cond, ◌≡◌, ◌+◌, ◌||◌, suc, List, [], ◌∷◌, length, eqb, refl}

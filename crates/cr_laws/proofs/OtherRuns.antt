@@ -1,3 +1,4 @@
+-- SPDX-License-Identifier: Apache-2.0 OR MIT
 -- Another run out of one: in the place of each of its wishes stands that wish, another, or none, so that the history
 -- that it leads to is what a function makes of the run's, and the group ask and hear the same.
 use Rattle.std.proofs.Common.{ℕ, Bool, true, false, ◌≡◌, List, [], ◌∷◌, ◌++◌, length, refl, sym, ap, subst, ◌∙◌}

@@ -1,3 +1,4 @@
+-- SPDX-License-Identifier: Apache-2.0 OR MIT
 -- What is wished by a search's text is what the grammar says of it.
 use Rattle.std.proofs.Common.{ℕ, ◌≡◌, ◌∙◌, List, Option, Some, Result, ap}
 use Rattle.cr_base.specs.declared.search.Step.{Step}

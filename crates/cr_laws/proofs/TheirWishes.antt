@@ -1,3 +1,4 @@
+-- SPDX-License-Identifier: Apache-2.0 OR MIT
 -- A wish of the group's, on a history that looks the same to whoever gives it: it is answered the same, and adds the
 -- same, of which nothing is filled in.
 use Rattle.std.proofs.Common.{ℕ, Bool, true, false, ◌≡◌, ◌⊎◌, suc, List, [], ◌∷◌, ◌++◌, length, map, refl, sym, ap}

@@ -1,3 +1,4 @@
+-- SPDX-License-Identifier: Apache-2.0 OR MIT
 -- Where twins change places, what the group made stays, and so do registrations.
 use Rattle.std.proofs.Common.{ℕ, Bool, true, false, cond, ◌≡◌, ◌⊎◌, ◌||◌, List, [], ◌∷◌, refl, sym, ap, ◌∙◌, Option}
 use Rattle.std.proofs.Common.{None, eqb, inl, inr}

@@ -1,3 +1,4 @@
+-- SPDX-License-Identifier: Apache-2.0 OR MIT
 -- That whoever looks is neither of the twins is needed: computed, in a small conference.
 use Rattle.std.proofs.Common.{◌≡◌, ℕ, Bool, true, false, not, List, [], ◌∷◌, ◌++◌, refl, sym, subst, Option}
 use Rattle.std.proofs.Common.{Some, append_assoc, append-nil, arith, ◌||◌, ◌&&◌}

@@ -1,3 +1,4 @@
+-- SPDX-License-Identifier: Apache-2.0 OR MIT
 -- Of each run there is another in which no command of others than the group's has a number, and the group hear the
 -- same.
 use Rattle.std.proofs.Common.{ℕ, Bool, true, false, cond, ◌≡◌, List, [], ◌∷◌, ◌++◌, length, refl, sym, ap, subst}

@@ -1,3 +1,4 @@
+-- SPDX-License-Identifier: Apache-2.0 OR MIT
 -- AnotherRun: another run, in which a group of users ask and are answered the same.
 use Rattle.std.specs.Prelude.{ℕ, Bool, ◌≡◌, List, [], ◌∷◌, ◌++◌, length, take, Option}
 use Rattle.std.specs.List.{list_any}

@@ -1,3 +1,4 @@
+-- SPDX-License-Identifier: Apache-2.0 OR MIT
 -- TwoRunsOfGroup: if two runs agree in the wishes of a group of users, in the order of all their requests, in which
 -- answers close the connection, and in the view of each of them at each of their own requests, they agree in every byte
 -- that the group is answered, in that order. So they learn nothing more by putting together all that they are answered.

@@ -1,3 +1,4 @@
+-- SPDX-License-Identifier: Apache-2.0 OR MIT
 -- HiddenBytes: if a user wishes the same in two runs at the same timestamps, the same answers close the connection, and
 -- the histories before each of the user's wishes differ only in what the user isn't shown, the runs agree in every byte
 -- that the user is answered.

@@ -1,3 +1,4 @@
+-- SPDX-License-Identifier: Apache-2.0 OR MIT
 -- That the text of a plan is accepted as a bulk, if the user who was told it posts it before anything else happens.
 use Rattle.std.specs.Prelude.{ℕ, List, Option, None, Some, IsOk, ◌≡◌}
 use Rattle.cr_base.specs.declared.bulk.BulkRow.{BulkRow}

@@ -1,3 +1,4 @@
+-- SPDX-License-Identifier: Apache-2.0 OR MIT
 -- ResponseBytes: before the notification the bytes that a paper's authors are answered don't depend on what is in the
 -- forms on it of which they are told nothing.
 use Rattle.std.specs.Prelude.{ℕ, Bool, Option, [], ◌∷◌, ◌++◌, IsTrue, IsFalse}

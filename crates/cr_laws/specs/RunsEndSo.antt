@@ -1,3 +1,4 @@
+-- SPDX-License-Identifier: Apache-2.0 OR MIT
 -- RunsEndSo: in which histories a run could have ended, for all that a group of users were answered in it. By it what a
 -- law says of histories is said of requests and their answers.
 use Rattle.std.specs.Prelude.{ℕ, Bool, true, false, ◌≡◌, ◌||◌, List, [], ◌∷◌, Option, IsTrue}

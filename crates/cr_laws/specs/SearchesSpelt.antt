@@ -1,3 +1,4 @@
+-- SPDX-License-Identifier: Apache-2.0 OR MIT
 -- SearchesSpelt: what a request wishes by the text of a search is what the grammar says of that text.
 use Rattle.std.specs.Prelude.{ℕ, ◌≡◌, List, Option, Some, Result}
 use Rattle.cr_base.specs.declared.search.Step.{Step}

@@ -1,3 +1,4 @@
+-- SPDX-License-Identifier: Apache-2.0 OR MIT
 -- UndeducibleBytes: whatever a group of users ask, all that they are answered could have come of a conference in which
 -- all values that they weren't shown were others. What they were shown is said by the bounds, as in law_undeducible;
 -- the runs are those of law_group_runs.

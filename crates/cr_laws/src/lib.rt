@@ -1,3 +1,4 @@
+// SPDX-License-Identifier: Apache-2.0 OR MIT
 //! Theorems over the definitions of several crates, which no crate uses.
 //!
 //! # Proved

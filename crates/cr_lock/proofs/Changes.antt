@@ -1,3 +1,4 @@
+-- SPDX-License-Identifier: Apache-2.0 OR MIT
 -- Each step keeps the rule of the lock.
 use Rattle.std.proofs.Common.{◌≡◌, ◌≢◌, ◌⊎◌, inl, inr, ⊎_elim, ℕ, zero, suc, ◌+◌, ◌*◌, ◌%◌, ◌^◌, ◌<◌, ◌≤◌, Option, Some}
 use Rattle.std.proofs.Common.{List, [], ◌∷◌, length, get_or, set, if◌then◌else◌, refl, ap, sym, ◌∙◌, subst, arith}

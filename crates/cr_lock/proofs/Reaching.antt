@@ -1,10 +1,11 @@
+-- SPDX-License-Identifier: Apache-2.0 OR MIT
 -- Which turns the passes made, and what those lead to.
-use Rattle.std.proofs.Common.{◌≡◌, ◌≢◌, ◌⊎◌, inl, inr, ⊎_elim, ℕ, zero, suc, Bool, true, false, if◌then◌else◌}
-use Rattle.std.proofs.Common.{List, [], ◌∷◌, ◌++◌, set, refl, sym, ap, subst}
+use Rattle.std.proofs.Common.{◌≡◌, ◌⊎◌, inl, inr, ⊎_elim, ℕ, zero, suc, Bool, true, false, if◌then◌else◌}
+use Rattle.std.proofs.Common.{List, [], ◌∷◌, ◌++◌, set, refl, sym, subst}
 use mathlib.Core.Option.{some, some-injective, some-ne-none}
 use lib.ListN.{get_elem?}
 use Rattle.cr_lock.specs.declared.pass_state.Turn.{Turn}
-use Rattle.cr_lock.specs.Counts.{Every, Any, Among}
+use Rattle.cr_lock.specs.Counts.{Every, Any}
 use Rattle.cr_lock.specs.Turns.{insert_turn, merged, comes_after, Leads, Reached}
 
 -- ---- one of a list

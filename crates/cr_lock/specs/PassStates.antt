@@ -1,3 +1,4 @@
+-- SPDX-License-Identifier: Apache-2.0 OR MIT
 -- What the table keeps of each pass, and what splits and joins make of it.
 use Rattle.std.specs.Prelude.{ℕ, ◌+◌, ◌-◌, ◌/◌, List, [], Option, Some, None, max}
 use Rattle.cr_lock.specs.declared.pass_state.Turn.{Turn}

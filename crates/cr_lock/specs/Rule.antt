@@ -1,3 +1,4 @@
+-- SPDX-License-Identifier: Apache-2.0 OR MIT
 -- The rule of the table, which is a ticket lock (Mellor-Crummey and Scott, 1991). Its words are the next ticket to be
 -- drawn, the ticket that is served and the length of the history. Its slot has the value.
 use Rattle.std.specs.Prelude.{◌≡◌, ℕ, ◌+◌, ◌*◌, ◌<◌, ◌≤◌, ◌⊎◌, List, [], ◌∷◌, length, Option, Some, IfSome, ⊤}

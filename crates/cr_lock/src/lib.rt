@@ -1,3 +1,4 @@
+// SPDX-License-Identifier: Apache-2.0 OR MIT
 //! One value, one history, many threads.
 //!
 //! A [`HistoryLock`] owns a value whose model is a list that only grows, its history (see [`Stands`]). Threads take

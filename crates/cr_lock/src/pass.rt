@@ -1,3 +1,4 @@
+// SPDX-License-Identifier: Apache-2.0 OR MIT
 //! The right to turns.
 use crate::pass_state::PassState;
 use crate::stands::Stands;

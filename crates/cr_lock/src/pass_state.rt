@@ -1,3 +1,4 @@
+// SPDX-License-Identifier: Apache-2.0 OR MIT
 //! What a pass knows of the history. Only contracts speak of these: no value of them is ever made.
 use std::collections::LinkedList;
 

@@ -1,3 +1,4 @@
+// SPDX-License-Identifier: Apache-2.0 OR MIT
 //! The rule of the lock's table.
 use crate::pass_state::PassState;
 use crate::stands::Stands;

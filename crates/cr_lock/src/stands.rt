@@ -1,3 +1,4 @@
+// SPDX-License-Identifier: Apache-2.0 OR MIT
 //! The history of a value under the lock.
 ghost use Rattle.std.specs.Prelude.{◌≡◌, ℕ, List, length};
 

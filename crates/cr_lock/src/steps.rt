@@ -1,3 +1,4 @@
+// SPDX-License-Identifier: Apache-2.0 OR MIT
 //! The kinds of step on the lock's table. Each says what it tells the pass that makes it.
 ghost use Rattle.cr_lock.specs.PassStates.{left_half, right_half, joining, spent_state};
 ghost use Rattle.cr_lock.specs.Steps.{Drew, Looked, Noted, WentOn, LookedAfterJoin};

@@ -1,3 +1,4 @@
+-- SPDX-License-Identifier: Apache-2.0 OR MIT
 -- What the index of numbers finds, and what it is after the entries of one command more.
 use Rattle.std.proofs.Common.{ℕ, Bool, true, false, cond, ◌≡◌, ◌+◌, ◌<◌, ◌&&◌, [], ◌∷◌, ◌++◌, length, get_or, zero, suc}
 use Rattle.std.proofs.Common.{eqb, refl, sym, ap, subst, ◌∙◌, arith, append-nil, Option, Some, None, IfSome}

@@ -1,3 +1,4 @@
+-- SPDX-License-Identifier: Apache-2.0 OR MIT
 -- The first element that passes a test, and all that pass, where others are put behind them.
 use Rattle.std.proofs.Common.{ℕ, Bool, true, false, cond, ◌≡◌, ◌+◌, List, [], ◌∷◌, ◌++◌, length, suc, refl, ap, ◌∙◌}
 use Rattle.std.proofs.Common.{arith, Some, None}

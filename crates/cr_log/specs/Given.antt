@@ -1,3 +1,4 @@
+-- SPDX-License-Identifier: Apache-2.0 OR MIT
 -- Numbers that users gave commands: of which command entries are, and which entries may be added.
 use Rattle.std.specs.Prelude.{ℕ, Bool, ◌≡◌, ◌==◌, ◌&&◌, [], ◌∷◌, Option, None, IfSome}
 use Rattle.std.specs.List.{AllByRecursion}

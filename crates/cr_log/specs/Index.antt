@@ -1,3 +1,4 @@
+-- SPDX-License-Identifier: Apache-2.0 OR MIT
 -- The index of numbers that the log keeps.
 use Rattle.std.specs.Prelude.{Bool, ◌≡◌, ◌==◌, ◌&&◌, length, Option}
 use Rattle.std.specs.List.{position_from}

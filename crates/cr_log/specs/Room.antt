@@ -1,3 +1,4 @@
+-- SPDX-License-Identifier: Apache-2.0 OR MIT
 -- Room for the entries of one command.
 use Rattle.std.specs.Prelude.{◌≤◌, ◌<◌, length, IfSome}
 use Rattle.cr_base.specs.History.{History}

@@ -1,3 +1,4 @@
+-- SPDX-License-Identifier: Apache-2.0 OR MIT
 -- What contracts see of a log, and of what it finds.
 use Rattle.std.specs.Prelude.{ℕ, [], ◌∷◌, length, Option, Some, None}
 use Rattle.cr_base.specs.declared.entry.Stamped.{Stamped}

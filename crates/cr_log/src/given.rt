@@ -1,3 +1,4 @@
+// SPDX-License-Identifier: Apache-2.0 OR MIT
 //! By what the log finds entries: a command number, and the user who gave it.
 ghost use Rattle.std.specs.Prelude.{◌≡◌};
 ghost use Rattle.cr_log.specs.Given.{number_given};

@@ -1,3 +1,4 @@
+// SPDX-License-Identifier: Apache-2.0 OR MIT
 //! The history as its entries, with an index from a user's command number to what was added under it.
 //!
 //! # Proved

@@ -1,3 +1,4 @@
+// SPDX-License-Identifier: Apache-2.0 OR MIT
 //! The history, and where in it the entries under each number stand.
 ghost use Rattle.std.specs.Prelude.{◌≡◌, ◌≤◌, ◌+◌, ◌/◌, ◌++◌, ◌↔◌, [], IsTrue, OnOk, length, max, vec_len, vec_capacity};
 ghost use Rattle.cr_base.specs.Keys.{kept_under, IsUnused};

@@ -1,3 +1,4 @@
+-- SPDX-License-Identifier: Apache-2.0 OR MIT
 -- A place is in a set or not.
 use Rattle.cr_match.proofs.Common.{◌≡◌, ◌⊎◌, ℕ, ◌+◌, ◌*◌, ◌/◌, ◌%◌, ◌≤◌, List, arith, get_or, cases_eq, bit_at}
 use Rattle.cr_match.proofs.Common.{bit_at-lt, inl, inr}

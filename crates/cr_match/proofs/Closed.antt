@@ -1,3 +1,4 @@
+-- SPDX-License-Identifier: Apache-2.0 OR MIT
 -- A search that can't go on: how far its prices are from those of its root.
 use Rattle.cr_match.proofs.Common.{◌≡◌, ◌≢◌, inl, inr, ℕ, zero, suc, ◌+◌, ◌*◌, ◌<◌, ◌≤◌, get_or, arith, ap, sym, ◌∙◌}
 use Rattle.cr_match.proofs.Common.{subst, cases_eq, cases_lt, Has, Drops, step_of, IsRoomy, AreSteps, IsDone, GoesOn}

@@ -1,3 +1,4 @@
+-- SPDX-License-Identifier: Apache-2.0 OR MIT
 -- What most proofs of this crate cite: words of std and of the specs.
 pub use Rattle.std.proofs.Common.{All, Bool, Global, IfNone, List, None, Option, Some, Vec, [], ap, arith, cond}
 pub use Rattle.std.proofs.Common.{count_by, drop, eq-eqb, eqb, eqb-true, false, get_or, get_or-set_other}

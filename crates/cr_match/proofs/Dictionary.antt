@@ -1,3 +1,4 @@
+-- SPDX-License-Identifier: Apache-2.0 OR MIT
 -- From choices of pairs to lists of pairs in dictionary order.
 use Rattle.cr_match.proofs.Common.{Bool, IsAscending, IsPlan, IsProblem, List, Pair, Problem, ap, arith, false, get_or}
 use Rattle.cr_match.proofs.Common.{inl, inr, ints, kept, length, map, refl, subst, suc, sym, total_weight, true, zero}

@@ -1,3 +1,4 @@
+-- SPDX-License-Identifier: Apache-2.0 OR MIT
 -- Pairs of which none stands twice, their places in a table, and the table that they are written into.
 use Rattle.cr_match.proofs.Common.{◌≡◌, ◌≢◌, ◌⊎◌, inl, inr, ◌↔◌, ℕ, suc, ◌+◌, ◌*◌, ◌<◌, ◌≤◌, ◌/◌, ◌%◌, List, ◌∷◌}
 use Rattle.cr_match.proofs.Common.{length, get_or, replicate, set, get_or-set_other, get_or-set_same, refl, arith, ap}

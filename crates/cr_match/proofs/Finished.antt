@@ -1,3 +1,4 @@
+-- SPDX-License-Identifier: Apache-2.0 OR MIT
 -- From where a search ends to what answers the problem.
 use Rattle.cr_match.proofs.Common.{All-from_get_or, Board, Bool, Choice, HasNoPlan, IsAscending, IsBoardFor, AreInside}
 use Rattle.cr_match.proofs.Common.{IsTooMuch, Drops, bound, IsBoardOf, IsPlan, IsProblem, IsSettling, IsStuck, List}

@@ -1,3 +1,4 @@
+-- SPDX-License-Identifier: Apache-2.0 OR MIT
 -- A pair that is held now, or no longer, leaves a draft.
 use Rattle.cr_match.proofs.Common.{◌≡◌, ◌≢◌, ◌⊎◌, inl, inr, ◌↔◌, ℕ, ◌+◌, ◌*◌, ◌/◌, ◌%◌, ◌<◌, ◌≤◌, Bool, true, false}
 use Rattle.cr_match.proofs.Common.{length, get_or, refl, arith, nat_tests, zero, suc, ap, sym, ◌∙◌, subst, cases_eq}

@@ -1,3 +1,4 @@
+-- SPDX-License-Identifier: Apache-2.0 OR MIT
 -- The places of one word that are fresh, and the first of them.
 use Rattle.cr_match.proofs.Common.{◌≡◌, inl, inr, ℕ, ◌+◌, ◌-◌, ◌*◌, ◌/◌, ◌%◌, ◌^◌, ◌<◌, ◌≤◌, Bool, true, false, List}
 use Rattle.cr_match.proofs.Common.{get_or, min, ltb, cond, refl, arith, ap, sym, ◌∙◌, w64, nat_tests, cases_lt}

@@ -1,3 +1,4 @@
+-- SPDX-License-Identifier: Apache-2.0 OR MIT
 -- The least of distances.
 use Rattle.cr_match.proofs.Common.{◌≡◌, ◌⊎◌, inl, inr, ℕ, ◌+◌, ◌<◌, ◌≤◌, arith, sym, subst, cases_eq, far, Clears}
 use Rattle.cr_match.proofs.Common.{Board, Levels, Choice, Trail}

@@ -1,3 +1,4 @@
+-- SPDX-License-Identifier: Apache-2.0 OR MIT
 -- The pairs that are held: how many a paper has, and a member, and what they weigh above their prices.
 use Rattle.cr_match.proofs.Common.{All, All-from_get_or, AreDistinct, Board, Bool, Choice, Holds, IsApart, IsBest}
 use Rattle.cr_match.proofs.Common.{IsBoardFor, IsCounted, IsPlan, Levels, List, Pair, above, ap, arith, cases_lt, cell}

@@ -1,3 +1,4 @@
+-- SPDX-License-Identifier: Apache-2.0 OR MIT
 -- Places of rows as bits of words.
 use Rattle.cr_match.proofs.Common.{◌≡◌, ◌≢◌, inl, inr, ◌↔◌, ℕ, ◌+◌, ◌*◌, ◌/◌, ◌%◌, ◌^◌, ◌<◌, ◌≤◌, List, length, get_or}
 use Rattle.cr_match.proofs.Common.{set, get_or-set_other, get_or-set_same, eqb, true, eq-eqb, eqb-true, arith, ap, sym}

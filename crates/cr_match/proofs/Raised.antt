@@ -1,3 +1,4 @@
+-- SPDX-License-Identifier: Apache-2.0 OR MIT
 -- A step of prices keeps a plan fitting, and a search begun.
 use Rattle.cr_match.proofs.Common.{◌≡◌, ◌⊎◌, inl, inr, ℕ, ◌+◌, ◌<◌, ◌≤◌, length, get_or, refl, arith, sym, ◌∙◌, subst}
 use Rattle.cr_match.proofs.Common.{Has, Takes, Drops, step_of, AreSteps, worth, price_of, far, AreSmall, Holds, Fits}

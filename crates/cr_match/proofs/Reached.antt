@@ -1,3 +1,4 @@
+-- SPDX-License-Identifier: Apache-2.0 OR MIT
 -- One more step of a search.
 use Rattle.cr_match.proofs.Common.{◌≡◌, ◌≢◌, ◌⊎◌, inl, inr, ℕ, ◌+◌, ◌<◌, ◌≤◌, List, length, get_or, refl, Board}
 use Rattle.cr_match.proofs.Common.{length-set, get_or-set_other, get_or-set_same, arith, ap, sym, ◌∙◌, subst, cases_eq}

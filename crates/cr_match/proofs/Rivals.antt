@@ -1,3 +1,4 @@
+-- SPDX-License-Identifier: Apache-2.0 OR MIT
 -- Plans of the same pairs: none is worth more than one that suits prices, and what a plan lacks that no search can
 -- bring in, none has that is worth as much and the same before.
 use Rattle.cr_match.proofs.Common.{suc, zero, inl, inr, cases_lt, All, AreInside, Bool, IsPlan, List, Pair, above, ap}

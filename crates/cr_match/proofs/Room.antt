@@ -1,3 +1,4 @@
+-- SPDX-License-Identifier: Apache-2.0 OR MIT
 -- Totals below a number, how many pairs a place has, and papers for which the members have too little room.
 use Rattle.cr_match.proofs.Common.{get_or, All, All-cons, All-head, All-nil, All-tail, AreInside, Bool, DistinctBelow}
 use Rattle.cr_match.proofs.Common.{IsPlan, IsTooMuch, List, Pair, among, ap, arith, cases_eq, count_by, false, inl, inr}

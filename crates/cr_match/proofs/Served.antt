@@ -1,3 +1,4 @@
+-- SPDX-License-Identifier: Apache-2.0 OR MIT
 -- A turn keeps a plan fitting, and some paper has one member more.
 use Rattle.cr_match.proofs.Common.{◌≡◌, ◌⊎◌, inl, inr, ℕ, ◌+◌, ◌<◌, ◌≤◌, get_or, refl, arith, ap, sym, ◌∙◌, cases_eq}
 use Rattle.cr_match.proofs.Common.{worth, price_of, IsDraft, IsFree, Suits, Turns, at, IsFitting, IsBegun, IsSearched}

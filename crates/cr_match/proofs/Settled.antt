@@ -1,3 +1,4 @@
+-- SPDX-License-Identifier: Apache-2.0 OR MIT
 -- One more pair is settled.
 use Rattle.cr_match.proofs.Common.{Board, Choice, Drops, Has, Holds, IsBest, IsBoardFor, IsDraft, IsFree, IsSearched}
 use Rattle.cr_match.proofs.Common.{IsSettling, IsTurned, Levels, List, Moves, Pair, Suits, Takes, Trail, arith}

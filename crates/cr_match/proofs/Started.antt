@@ -1,3 +1,4 @@
+-- SPDX-License-Identifier: Apache-2.0 OR MIT
 -- What a search begins with fits.
 use Rattle.cr_match.proofs.Common.{AreMoves, AreTold, Board, Bool, Draft, Drops, Holds, IsBoard, IsDraft, IsFitting}
 use Rattle.cr_match.proofs.Common.{Levels, Moves, Takes, arith, cell, get_or, inl, inr, ltb, nat_tests, placed, refl}

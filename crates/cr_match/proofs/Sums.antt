@@ -1,3 +1,4 @@
+-- SPDX-License-Identifier: Apache-2.0 OR MIT
 -- Sums over pairs: what they gain, and what they pay by place.
 use Rattle.cr_match.proofs.Common.{All, All-from_get_or, All-head, All-tail, Bool, List, Pair, ap, arith, cond}
 use Rattle.cr_match.proofs.Common.{count_by, false, get_or, ints, kept, length, map, mul-le-mul_right, nat_tests, pos}

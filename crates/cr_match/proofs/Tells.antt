@@ -1,3 +1,4 @@
+-- SPDX-License-Identifier: Apache-2.0 OR MIT
 -- Lists that are told one by one.
 use Rattle.cr_match.proofs.Common.{◌≡◌, ◌⊎◌, inl, inr, ℕ, suc, ◌+◌, ◌<◌, ◌≤◌, ◌==◌, ◌||◌, Bool, true, false, List, ◌∷◌}
 use Rattle.cr_match.proofs.Common.{◌++◌, length, get_or, drop, map, refl, arith, ap, sym, ◌∙◌, subst, cases_eq, eq-eqb}

@@ -1,3 +1,4 @@
+-- SPDX-License-Identifier: Apache-2.0 OR MIT
 -- What may change, told anew of one pair after another.
 use Rattle.cr_match.proofs.Common.{◌≡◌, ◌≢◌, ◌⊎◌, inl, inr, ◌↔◌, ℕ, ◌<◌, ◌≤◌, Bool, true, false, List, arith, subst}
 use Rattle.cr_match.proofs.Common.{RowHas, Takes, Drops, AreMoves, Holds, IsDraft, IsTight, AreTold, Board, Levels}

@@ -1,3 +1,4 @@
+-- SPDX-License-Identifier: Apache-2.0 OR MIT
 -- What a step of a turn keeps: a paper gives up a member, and another takes her.
 use Rattle.cr_match.proofs.Common.{◌≡◌, inl, inr, ℕ, ◌<◌, ◌≤◌, true, false, List, get_or, refl, arith, subst}
 use Rattle.cr_match.proofs.Common.{cases_eq, Board, Choice, Moves, Takes, Drops, IsDraft, Fits, Turns, at}

@@ -1,3 +1,4 @@
+-- SPDX-License-Identifier: Apache-2.0 OR MIT
 -- A turn on its way: which steps are left, and what one step back keeps.
 use Rattle.cr_match.proofs.Common.{◌≢◌, inl, inr, ℕ, ◌<◌, ◌≤◌, Bool, false, true, arith, sym, subst, cases_eq}
 use Rattle.cr_match.proofs.Common.{AreSteps, Board, Choice, Drops, IsDraft, Moves, Path, Step, Takes, Turns, step_of}

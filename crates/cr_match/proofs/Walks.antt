@@ -1,3 +1,4 @@
+-- SPDX-License-Identifier: Apache-2.0 OR MIT
 -- What comes next in a row.
 use Rattle.cr_match.proofs.Common.{◌≡◌, ℕ, ◌*◌, ◌<◌, ◌≤◌, ◌∙◌, Bool, List, Option, Some, None, IfNone, arith, sym}
 use Rattle.cr_match.proofs.Common.{subst, Has, RowHas, Covers, is_some, true, false}

@@ -1,3 +1,4 @@
+-- SPDX-License-Identifier: Apache-2.0 OR MIT
 -- Plans, what they are worth, and what shows that none is worth more: prices, by weak duality (the assignment
 -- problem of Kuhn, 1955, and Munkres, 1957, where papers need several members).
 use Rattle.std.specs.Prelude.{◌≡◌, ℕ, zero, suc, ◌+◌, ◌*◌, ◌<◌, ◌≤◌, Bool, true}

@@ -1,3 +1,4 @@
+-- SPDX-License-Identifier: Apache-2.0 OR MIT
 -- Pairs settled one after another: the table of a problem, and what is kept meanwhile.
 use Rattle.std.specs.Prelude.{◌≡◌, ℕ, ◌<◌, ◌≤◌, ◌⊎◌, ◌↔◌, ◌==◌, Bool, List, length, map, slice_index}
 use Rattle.std.specs.Prelude.{slice_index_or}

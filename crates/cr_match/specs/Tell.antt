@@ -1,3 +1,4 @@
+-- SPDX-License-Identifier: Apache-2.0 OR MIT
 -- What is told of a search.
 use Rattle.std.specs.Prelude.{◌≡◌, ℕ, ℤ, ◌<◌, ◌-ℤ◌, pos, true, List, map, ◌↔◌}
 use Rattle.cr_match.specs.Plan.{DistinctBelow, among}

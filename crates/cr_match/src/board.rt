@@ -1,3 +1,4 @@
+// SPDX-License-Identifier: Apache-2.0 OR MIT
 //! The problem as a table, and prices.
 //!
 //! Numbers are lifted by `LIFT`, so that none is below 0: what a pair is worth, and the price of a paper. A member's

@@ -1,3 +1,4 @@
+// SPDX-License-Identifier: Apache-2.0 OR MIT
 //! An unfinished plan, and what may change in it at no cost.
 //!
 //! Beside the papers there is a spare one, number `papers`, for the room that members have left. Beside the members

@@ -1,3 +1,4 @@
+// SPDX-License-Identifier: Apache-2.0 OR MIT
 //! Plans of who reviews what: of the greatest sum, and the first in order of these.
 //!
 //! A `Problem` has papers that each need `per_paper` members, members who take at most `load` papers, and pairs that

@@ -1,3 +1,4 @@
+// SPDX-License-Identifier: Apache-2.0 OR MIT
 //! What is asked, and what is answered.
 
 use std::alloc::Global;

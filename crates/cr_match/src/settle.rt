@@ -1,3 +1,4 @@
+// SPDX-License-Identifier: Apache-2.0 OR MIT
 //! The first plan of the greatest sum.
 //!
 //! The pairs are settled one after another. A pair that is held stays. Another that is worth its prices comes in if a

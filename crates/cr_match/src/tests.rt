@@ -1,3 +1,4 @@
+// SPDX-License-Identifier: Apache-2.0 OR MIT
 ghost use Rattle.std.specs.Prelude.{IfOk};
 ghost use Rattle.cr_match.specs.Answer.{IsProblem};
 

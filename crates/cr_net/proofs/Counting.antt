@@ -1,3 +1,4 @@
+-- SPDX-License-Identifier: Apache-2.0 OR MIT
 -- Counts of faults that are added up.
 use Rattle.std.proofs.Common.{arith, ℕ, ◌+◌, ◌-◌, ◌^◌, ◌<◌, ◌≤◌, List, length, get_or, take, sum_by, subst, sym}
 use Rattle.std.proofs.lemmas.List.Sums.{sum_by_more}

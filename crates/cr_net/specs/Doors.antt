@@ -1,3 +1,4 @@
+-- SPDX-License-Identifier: Apache-2.0 OR MIT
 -- What contracts see of a door.
 use Rattle.std.specs.Prelude.{ℕ, Bool, false}
 

@@ -1,3 +1,4 @@
+-- SPDX-License-Identifier: Apache-2.0 OR MIT
 -- What the result of a read or a write of a socket is told as.
 use Rattle.std.specs.Prelude.{ℕ, zero, suc, Result, Ok, Err}
 use Rattle.cr_ports.specs.declared.source.ReadStep.{ReadStep}

@@ -1,3 +1,4 @@
+// SPDX-License-Identifier: Apache-2.0 OR MIT
 //! What the doors of one listener share, among themselves and with the reaper.
 
 use crate::shared::SharedStream;

@@ -1,3 +1,4 @@
+// SPDX-License-Identifier: Apache-2.0 OR MIT
 //! What listens.
 ghost use Rattle.std.specs.Prelude.{◌≡◌, ◌<◌, ℕ, List, Option, None, IfOk, map, All, IsFalse, ⊤, sum_by};
 ghost use Rattle.cr_ports.specs.Count.{Gains};

@@ -1,3 +1,4 @@
+// SPDX-License-Identifier: Apache-2.0 OR MIT
 //! Connections over TCP: gates on a loopback address. The trusted edge: no clause says what the system gives and
 //! takes. `reaper.rt` says which connection gives way to another.
 //!

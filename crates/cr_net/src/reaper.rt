@@ -1,3 +1,4 @@
+// SPDX-License-Identifier: Apache-2.0 OR MIT
 //! The reaper: a thread that has idle connections give way where others wait at the listener.
 //!
 //! A worker waits for its own client, so where each has one nobody takes a further connection, and none of them can see

@@ -1,3 +1,4 @@
+// SPDX-License-Identifier: Apache-2.0 OR MIT
 //! What the two ends of a connection share, between themselves and with the reaper.
 
 use std::net::{Shutdown, TcpStream};

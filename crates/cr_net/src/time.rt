@@ -1,3 +1,4 @@
+// SPDX-License-Identifier: Apache-2.0 OR MIT
 //! How long something may take, and how often it is waited for.
 
 use std::io::{self, ErrorKind};

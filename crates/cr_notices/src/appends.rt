@@ -1,3 +1,4 @@
+// SPDX-License-Identifier: Apache-2.0 OR MIT
 //! What standard error is told of appends.
 
 use std::fmt::Display;

@@ -1,3 +1,4 @@
+-- SPDX-License-Identifier: Apache-2.0 OR MIT
 -- What a pair's index says of the list: whether it is there, what is kept of it, and what the list is with it and
 -- without it.
 use Rattle.std.proofs.Common.{ℕ, Bool, true, false, cond, not, ◌||◌, ◌≡◌, List, [], ◌∷◌, get_or, set, Some, None}

@@ -1,3 +1,4 @@
+-- SPDX-License-Identifier: Apache-2.0 OR MIT
 -- Where a pair's tie stands in a list, and where it would stand.
 use Rattle.std.specs.Prelude.{ℕ, List, ◌≡◌, ◌≤◌, ◌<◌, IsTrue, length, slice_index_or}
 use Rattle.std.specs.declared.cmp.Ordering.{Ordering}

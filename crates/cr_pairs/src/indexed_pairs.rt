@@ -1,3 +1,4 @@
+// SPDX-License-Identifier: Apache-2.0 OR MIT
 //! Ties of papers and users that are found by paper and by user.
 ghost use Rattle.std.specs.Prelude.{◌≡◌, ◌<◌, [], OnOk, length, map, slice_index};
 ghost use Rattle.cr_base.specs.Lists.{IsRising};

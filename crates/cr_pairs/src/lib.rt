@@ -1,3 +1,4 @@
+// SPDX-License-Identifier: Apache-2.0 OR MIT
 //! Ordered maps from a paper and a user to what is kept of the two (a *tie*), by paper or by user.
 //!
 //! # Proved

@@ -1,3 +1,4 @@
+// SPDX-License-Identifier: Apache-2.0 OR MIT
 //! Ties of papers and users, each pair at most once, in ascending order.
 ghost use Rattle.std.specs.Prelude.{◌≡◌, ◌≤◌, ◌<◌, ◌+◌, [], OnOk, MatchResult, length, slice_index_or};
 ghost use Rattle.cr_base.specs.declared.pairs.Tie.{Tie};

@@ -1,3 +1,4 @@
+// SPDX-License-Identifier: Apache-2.0 OR MIT
 //! Ties of papers and users, those of each number together.
 ghost use Rattle.std.specs.Prelude.{◌≡◌, ◌≤◌, ◌<◌, [], OnOk, length, slice_index, map};
 ghost use Rattle.cr_base.specs.Pairs.{IsAscending, major, has_pair, tie_value, with_tie, without_pair, ties_of};

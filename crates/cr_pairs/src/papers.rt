@@ -1,3 +1,4 @@
+// SPDX-License-Identifier: Apache-2.0 OR MIT
 //! The papers of pairs.
 ghost use Rattle.std.specs.Prelude.{◌≡◌, IfOk, map};
 

@@ -1,3 +1,4 @@
+-- SPDX-License-Identifier: Apache-2.0 OR MIT
 -- The papers that are there.
 use Rattle.std.proofs.Common.{ℕ, true, ◌≡◌, ◌≤◌, ◌+◌, ◌-◌, ◌&&◌, List, length, eqb, sym, ap, ◌∙◌, arith}
 use Rattle.std.specs.Prelude.{nat_le}

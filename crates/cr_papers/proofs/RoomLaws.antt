@@ -1,3 +1,4 @@
+-- SPDX-License-Identifier: Apache-2.0 OR MIT
 -- Room for a group of entries in the table of papers.
 use Rattle.std.proofs.Common.{ℕ, Bool, true, false, cond, ◌≡◌, ◌≤◌, ◌+◌, List, ◌∷◌, length, Some, refl, sym, arith}
 use Rattle.std.specs.Prelude.{nat_le}

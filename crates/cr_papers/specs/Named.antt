@@ -1,3 +1,4 @@
+-- SPDX-License-Identifier: Apache-2.0 OR MIT
 -- The paper that a command names, as the rules ask of it.
 use Rattle.std.specs.Prelude.{ℕ, ◌==◌, Option}
 use Rattle.std.specs.List.{list_any}

@@ -1,3 +1,4 @@
+-- SPDX-License-Identifier: Apache-2.0 OR MIT
 -- Room for the papers and the uploads of a group of entries.
 use Rattle.std.specs.Prelude.{ℕ, ◌≤◌, List, Option, Some, None, length, nat_le, if◌then◌else◌}
 use Rattle.cr_base.specs.declared.entry.Entry.{Entry}

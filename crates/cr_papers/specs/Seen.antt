@@ -1,3 +1,4 @@
+-- SPDX-License-Identifier: Apache-2.0 OR MIT
 -- What contracts see of the table of papers.
 use Rattle.std.specs.Prelude.{ℕ, List}
 use Rattle.cr_base.specs.declared.filed.Filed.{Filed}

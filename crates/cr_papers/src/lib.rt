@@ -1,3 +1,4 @@
+// SPDX-License-Identifier: Apache-2.0 OR MIT
 //! The table of papers: what was submitted, revised, uploaded and withdrawn, and how much of it is each user's.
 //!
 //! # Proved

@@ -1,3 +1,4 @@
+// SPDX-License-Identifier: Apache-2.0 OR MIT
 //! What was uploaded to papers, by version.
 ghost use Rattle.std.specs.Prelude.{◌≡◌, ◌<◌, ◌+◌, ◌^◌, ◌==◌, []};
 ghost use Rattle.std.specs.Prelude.{OnOk, IfOk, length, map, find, slice_index};

@@ -1,3 +1,4 @@
+-- SPDX-License-Identifier: Apache-2.0 OR MIT
 -- The first command of all registers the first user and makes her a chair; and where a chair is dismissed another one
 -- stays.
 use Rattle.std.proofs.Common.{ℕ, Bool, true, false, cond, ◌&&◌, ◌||◌, ◌≡◌, ◌≤◌, ◌<◌, ◌+◌, suc, List, [], ◌∷◌, ◌++◌}

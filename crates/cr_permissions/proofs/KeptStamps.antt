@@ -1,3 +1,4 @@
+-- SPDX-License-Identifier: Apache-2.0 OR MIT
 -- No rule reads the number of a command, nor its moment but for whether it is too late. So under a stamp without a
 -- number, and with another moment that is as late, all is judged as it is under its own.
 use Rattle.std.proofs.Common.{ℕ, Bool, true, false, cond, ◌≡◌, ◌+◌, List, [], ◌∷◌, ◌++◌, length, refl, sym, ap, subst}

@@ -1,3 +1,4 @@
+-- SPDX-License-Identifier: Apache-2.0 OR MIT
 -- A query is answered exactly where its sentence holds.
 use Rattle.std.proofs.Common.{ℕ, Bool, true, false, cond, ◌≡◌, ◌*◌, length, List, [], ◌∷◌, eqb, refl, sym, ap, ◌∙◌}
 use Rattle.std.proofs.Common.{◌||◌, ◌&&◌, arith, Option, Some, None}

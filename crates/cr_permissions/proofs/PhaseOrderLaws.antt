@@ -1,3 +1,4 @@
+-- SPDX-License-Identifier: Apache-2.0 OR MIT
 -- The order of phases is computed, pair by pair.
 use Rattle.std.proofs.Common.{refl, true}
 use Rattle.std.specs.Prelude.{◌≡◌}

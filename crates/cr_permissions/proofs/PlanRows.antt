@@ -1,3 +1,4 @@
+-- SPDX-License-Identifier: Apache-2.0 OR MIT
 -- The rows that assign the pairs of a plan, one after another, by the tables: each is accepted behind those before it.
 use Rattle.std.proofs.Common.{ℕ, Bool, true, false, cond, eqb, ◌≡◌, ◌≤◌, ◌+◌, ◌&&◌, ◌||◌, List, [], ◌∷◌, length, map}
 use Rattle.std.proofs.Common.{count_by, refl, sym, ap, subst, ◌∙◌, arith, Option, Some, None, Result, Ok, Err}

@@ -1,3 +1,4 @@
+-- SPDX-License-Identifier: Apache-2.0 OR MIT
 -- PlansTaken: the rows of the best plan are accepted, one after another.
 use Rattle.std.proofs.Common.{ℕ, Bool, true, false, cond, eqb, ◌≡◌, ◌≤◌, ◌+◌, ◌*◌, ◌&&◌, ◌||◌, suc, List, [], ◌∷◌}
 use Rattle.std.proofs.Common.{◌++◌}

@@ -1,3 +1,4 @@
+-- SPDX-License-Identifier: Apache-2.0 OR MIT
 -- No conference gets stuck: from its first account on it has a chair, and before its end each can open its next
 -- phase.
 use Rattle.std.specs.Prelude.{ℕ, Option, Some, is_ok, IsTrue, IsFalse}

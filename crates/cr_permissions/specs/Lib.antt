@@ -1,3 +1,4 @@
+-- SPDX-License-Identifier: Apache-2.0 OR MIT
 -- ---- who may do and read what, as a committee says it
 pub mod MayDo
 pub mod MayRead

@@ -1,3 +1,4 @@
+-- SPDX-License-Identifier: Apache-2.0 OR MIT
 -- A second statement of who may do what: for each command one sentence, as a committee says it, written from
 -- docs/API.md and not from the lists of checks. If a paper or a user that a command names isn't there, no user may. `u`
 -- is the caller, `at` the timestamp of the request, `p` the paper named and `v` the user named.

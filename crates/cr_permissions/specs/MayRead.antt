@@ -1,3 +1,4 @@
+-- SPDX-License-Identifier: Apache-2.0 OR MIT
 -- Who may read what, said a second time: for each query one sentence, as a committee says it, written from
 -- docs/API.md and not from the lists of checks.
 use Rattle.std.specs.Prelude.{ℕ, Bool, true, false, not, ◌&&◌, ◌||◌, ◌==◌, ◌≡◌, ◌*◌, nat_le, List, length, Option}

@@ -1,3 +1,4 @@
+-- SPDX-License-Identifier: Apache-2.0 OR MIT
 -- Migration: what a store of an older version is read as: one that kept no moments of requests, or no numbers of
 -- commands.
 use Rattle.std.specs.Prelude.{ℕ, ◌≡◌, ◌≤◌, map, None}

@@ -1,3 +1,4 @@
+-- SPDX-License-Identifier: Apache-2.0 OR MIT
 -- The order of phases, pair by pair: which phases are one phase or later, and which may follow it. The numbers by which
 -- rows tell them are others: the response has a place in the middle, and the last number.
 use Rattle.std.specs.Prelude.{◌≡◌, List, [], ◌∷◌, map, filter, IsTrue}

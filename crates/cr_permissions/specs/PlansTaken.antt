@@ -1,3 +1,4 @@
+-- SPDX-License-Identifier: Apache-2.0 OR MIT
 -- That a plan is accepted as a bulk with a row for each of its pairs, if the user who was told it sends it before anything
 -- else happens.
 use Rattle.std.specs.Prelude.{ℕ, List, [], map, decimal, codes, Option, Some, IsOk, ◌≡◌}

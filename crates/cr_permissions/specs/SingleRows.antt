@@ -1,3 +1,4 @@
+-- SPDX-License-Identifier: Apache-2.0 OR MIT
 -- A bulk does what its rows' commands do, given one after another. The bulk has one number; its rows' commands have none.
 use Rattle.std.specs.Prelude.{ℕ, false, ◌≡◌, ◌+◌, List, [], ◌∷◌, ◌++◌, length, map, Some, Result, Ok, Err}
 use Rattle.std.specs.List.{flat_map}

@@ -1,3 +1,4 @@
+// SPDX-License-Identifier: Apache-2.0 OR MIT
 //! The permissions, stated a second time in a committee's words: a sentence for each command, query and bulk, and what
 //! follows for a conference's course.
 //!

@@ -1,3 +1,4 @@
+// SPDX-License-Identifier: Apache-2.0 OR MIT
 //! Phase and mode of the conference, whether the response was opened, and each phase's deadline.
 //!
 //! # Proved

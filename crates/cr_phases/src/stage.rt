@@ -1,3 +1,4 @@
+// SPDX-License-Identifier: Apache-2.0 OR MIT
 //! The phase, the mode and the deadlines of a history.
 ghost use Rattle.std.specs.Prelude.{◌≡◌, ◌∷◌, [], not, ◌||◌};
 ghost use Rattle.cr_base.specs.Checks.{judged, ◌breaks◌, phase_checks, deadline_checks, mode_checks};

@@ -1,3 +1,4 @@
+-- SPDX-License-Identifier: Apache-2.0 OR MIT
 -- What answers a problem is the best plan by its definition: no two plans of the greatest sum are first.
 use Rattle.std.proofs.Common.{◌≡◌, ◌⊎◌, inl, inr, ℕ, zero, suc, ◌+◌, ◌*◌, ◌≤◌, ◌<◌, Bool, true, false, eqb, List, []}
 use Rattle.std.proofs.Common.{◌∷◌, length, get_or, map, count_by, refl, arith, ap, sym, ◌∙◌, subst, Option, Some, None}

@@ -1,3 +1,4 @@
+-- SPDX-License-Identifier: Apache-2.0 OR MIT
 -- From what is planned to a problem of `cr_match`: papers and members by their places in these lists, from 0, and bids
 -- as weights.
 use Rattle.std.specs.Prelude.{◌≡◌, ℕ, ◌+◌, List, [], ◌∷◌, ◌++◌, length, pos, negsuc, ◌-ℤ◌, ◌≤ℤ◌, ℤ, Option}

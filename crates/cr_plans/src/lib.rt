@@ -1,3 +1,4 @@
+// SPDX-License-Identifier: Apache-2.0 OR MIT
 //! Plans of who might review what, by what members bid: from the tables to a problem of cr_match, and from its
 //! solution to the text that a bulk reads.
 //!

@@ -1,3 +1,4 @@
+// SPDX-License-Identifier: Apache-2.0 OR MIT
 //! What is planned: papers, members, and which of them may be joined. Each call has an error only for lack of memory.
 ghost use Rattle.std.specs.Prelude.{◌≡◌, ◌++◌, ◌≤◌, ◌<◌, ◌≤ℤ◌, pos, negsuc, IfOk, OnOk, length};
 ghost use Rattle.cr_base.specs.Lists.{given};

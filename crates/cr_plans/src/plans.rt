@@ -1,3 +1,4 @@
+// SPDX-License-Identifier: Apache-2.0 OR MIT
 //! What a query of a plan is answered.
 ghost use Rattle.cr_base.specs.Answering.{answer_by_role};
 ghost use Rattle.cr_base.specs.declared.command.Query.TheVariants as queries;

@@ -1,3 +1,4 @@
+// SPDX-License-Identifier: Apache-2.0 OR MIT
 //! The best plan: a problem of `cr_match` made of what is planned, and solved.
 ghost use Rattle.std.specs.Prelude.{◌≡◌, ◌≤◌, ◌*◌, IfOk, length};
 ghost use Rattle.cr_base.specs.Plans.{planned_members, planned_papers};

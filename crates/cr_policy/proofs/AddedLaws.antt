@@ -1,3 +1,4 @@
+-- SPDX-License-Identifier: Apache-2.0 OR MIT
 -- What an accepted command adds is what its line says.
 use Rattle.std.proofs.Common.{ℕ, Bool, true, false, cond, ◌≡◌, ◌+◌, suc, List, [], ◌∷◌, ◌++◌, append-nil, length, eqb}
 use Rattle.std.proofs.Common.{refl, sym, ap, subst, ◌∙◌, ◌||◌, ◌&&◌, arith, Option, Some, None, Ok}

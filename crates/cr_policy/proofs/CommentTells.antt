@@ -1,3 +1,4 @@
+-- SPDX-License-Identifier: Apache-2.0 OR MIT
 -- What a view says of comments is what the history says, where the reader's standing tells them.
 use Rattle.std.proofs.Common.{◌≡◌, ℕ, Bool, true, false, cond, List, [], ◌∷◌, ◌++◌, refl, sym, ap, subst, ◌∙◌, ◌≤◌}
 use Rattle.std.proofs.Common.{◌||◌, ◌&&◌, Option, Some, None, eqb, arith}

@@ -1,3 +1,4 @@
+-- SPDX-License-Identifier: Apache-2.0 OR MIT
 -- What a command and a bulk come to that may have a number: by the tables and what the history keeps of it as by the
 -- caller's view; and what of them is accepted is allowed, so it leads on.
 use Rattle.std.proofs.Common.{ℕ, Bool, true, false, cond, ◌≡◌, List, [], ◌∷◌, ◌++◌, refl, sym, ap, ◌∙◌, Option, Some}

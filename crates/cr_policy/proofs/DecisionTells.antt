@@ -1,3 +1,4 @@
+-- SPDX-License-Identifier: Apache-2.0 OR MIT
 -- What a view says of the decisions on papers: everyone is told which papers are accepted, and the decision is told
 -- whoever a paper's page tells it.
 use Rattle.std.proofs.Common.{◌≡◌, ℕ, Bool, true, false, List, [], ◌∷◌, refl, ap, ◌∙◌, ◌||◌, ◌&&◌, Option, Some, None}

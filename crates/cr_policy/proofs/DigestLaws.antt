@@ -1,3 +1,4 @@
+-- SPDX-License-Identifier: Apache-2.0 OR MIT
 -- Where who registers makes the entry herself, a digest is shown to its user alone.
 use Rattle.std.proofs.Common.{ℕ, Bool, true, false, ◌≡◌, List, [], ◌∷◌, ◌++◌, refl, subst, ◌||◌, Option, Some}
 use Rattle.std.specs.Prelude.{is_some}

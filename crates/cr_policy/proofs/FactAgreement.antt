@@ -1,3 +1,4 @@
+-- SPDX-License-Identifier: Apache-2.0 OR MIT
 -- Where the tables tell what a history tells, what rules and answers read in a view is what they read in the tables.
 use Rattle.std.proofs.Common.{ℕ, Bool, true, false, ◌≡◌, length, refl, sym, ap, ◌∙◌, Option, Some}
 use Rattle.std.specs.Prelude.{if◌then◌else◌}

@@ -1,3 +1,4 @@
+-- SPDX-License-Identifier: Apache-2.0 OR MIT
 -- What invitations to a paper, and their ends, show of who is invited.
 use Rattle.std.proofs.Common.{◌≡◌, ℕ, Bool, true, false, List, [], ◌∷◌, refl, ap, ◌∙◌, ◌&&◌, Option, Some, eqb}
 use Rattle.std.specs.List.{flat_map}

@@ -1,3 +1,4 @@
+-- SPDX-License-Identifier: Apache-2.0 OR MIT
 -- Where the tables tell what a history tells, judgement by a view is that by the tables.
 use Rattle.std.proofs.Common.{ℕ, Bool, true, false, cond, ◌≡◌, List, [], ◌∷◌, ◌+◌, ◌++◌, length, refl, ap, ◌∙◌, ◌||◌}
 use Rattle.std.proofs.Common.{◌&&◌, eqb, arith, Option, Some, None, Result, Err}

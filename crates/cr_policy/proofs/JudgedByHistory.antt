@@ -1,3 +1,4 @@
+-- SPDX-License-Identifier: Apache-2.0 OR MIT
 -- Judgement of a legal history by the facts of the history.
 use Rattle.std.proofs.Common.{ℕ, ◌≡◌, List, length, sym, ap, ◌∙◌, Option, Result}
 use Rattle.cr_base.specs.declared.command.Command.{Command}

@@ -1,3 +1,4 @@
+-- SPDX-License-Identifier: Apache-2.0 OR MIT
 -- Where the tables tell what a history tells and conflicts are declared in time, answers by a view are those by the
 -- tables.
 use Rattle.std.proofs.Common.{ℕ, Bool, true, false, ◌≡◌, List, [], ◌∷◌, ◌||◌, ◌&&◌, refl, ap, ◌∙◌, arith, Option, Some}

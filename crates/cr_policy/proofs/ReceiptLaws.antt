@@ -1,3 +1,4 @@
+-- SPDX-License-Identifier: Apache-2.0 OR MIT
 -- What an accepted command of a user's is answered is what the first entry that it adds tells, and so it stays, since
 -- names stay; and a bulk is answered how many entries it adds.
 use Rattle.std.proofs.Common.{ℕ, Bool, true, false, cond, ◌≡◌, ◌+◌, List, [], ◌∷◌, ◌++◌, suc, length, eqb, refl, sym}

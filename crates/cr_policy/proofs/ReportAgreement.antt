@@ -1,3 +1,4 @@
+-- SPDX-License-Identifier: Apache-2.0 OR MIT
 -- Where the tables tell what a history tells, what a report tells one who may have it is by her view what it is by
 -- the tables.
 use Rattle.std.proofs.Common.{ℕ, Bool, true, false, cond, ◌≡◌, List, [], ◌∷◌, ◌++◌, length, ◌||◌, ◌&&◌, refl, sym, ap}

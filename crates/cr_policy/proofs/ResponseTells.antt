@@ -1,3 +1,4 @@
+-- SPDX-License-Identifier: Apache-2.0 OR MIT
 -- What a view says of a response is what the history says, where the reader's standing tells it.
 use Rattle.std.proofs.Common.{◌≡◌, ℕ, Bool, true, false, List, [], refl, ap, ◌||◌, ◌&&◌, Option, Some, eqb, arith}
 use Rattle.std.specs.List.{flat_map}

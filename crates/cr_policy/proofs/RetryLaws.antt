@@ -1,3 +1,4 @@
+-- SPDX-License-Identifier: Apache-2.0 OR MIT
 -- What a view keeps of a number of its reader's is what the history keeps: she is shown the key of each entry of her
 -- own, and all that the receipt of its command tells; of others' she is shown no key.
 use Rattle.std.proofs.Common.{ℕ, Bool, true, false, cond, ◌≡◌, suc, List, [], ◌∷◌, ◌++◌, length, eqb, refl, sym, ap}

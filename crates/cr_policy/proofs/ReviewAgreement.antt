@@ -1,3 +1,4 @@
+-- SPDX-License-Identifier: Apache-2.0 OR MIT
 -- Where the tables tell what a history tells, what a reader is told of a paper's reviewers and reviews is what the
 -- tables have.
 use Rattle.std.proofs.Common.{ℕ, Bool, true, false, cond, ◌≡◌, List, [], refl, sym, ap, subst, ◌∙◌, ◌||◌, ◌&&◌, arith}

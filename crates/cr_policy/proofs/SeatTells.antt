@@ -1,3 +1,4 @@
+-- SPDX-License-Identifier: Apache-2.0 OR MIT
 -- What each entry shows of bids and of reviewers, and what is kept of that.
 use Rattle.std.proofs.Common.{◌≡◌, ℕ, Bool, true, false, [], ◌∷◌, refl, sym, ap, subst, ◌∙◌, ◌&&◌, Option, Some, None}
 use Rattle.std.proofs.Common.{eqb}

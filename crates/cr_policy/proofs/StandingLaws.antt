@@ -1,3 +1,4 @@
+-- SPDX-License-Identifier: Apache-2.0 OR MIT
 -- What a view says of the conference, of its papers and of its reader is what the history says.
 use Rattle.std.proofs.Common.{◌≡◌, ℕ, Bool, true, false, List, [], refl, ap, ◌∙◌, ◌||◌, ◌&&◌, Option, Some, None}
 use Rattle.std.proofs.Common.{length}

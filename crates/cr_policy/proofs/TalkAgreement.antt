@@ -1,3 +1,4 @@
+-- SPDX-License-Identifier: Apache-2.0 OR MIT
 -- Where the tables tell what a history tells, what a reader is told of the comments on a paper, of what its authors
 -- responded and of its tags is what the tables have.
 use Rattle.std.proofs.Common.{ℕ, true, ◌≡◌, List, [], length, sym, ap, subst, ◌∙◌, Option, Some}

@@ -1,3 +1,4 @@
+-- SPDX-License-Identifier: Apache-2.0 OR MIT
 -- What each entry shows of one fact: one lemma a fact, one line a kind of entry that tells of it.
 use Rattle.std.proofs.Common.{◌≡◌, ℕ, Bool, true, false, List, [], ◌∷◌, length, refl, sym, ap, ◌∙◌, ◌||◌, ◌&&◌, Option}
 use Rattle.std.proofs.Common.{Some, append-nil, eqb, arith}

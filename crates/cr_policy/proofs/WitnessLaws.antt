@@ -1,3 +1,4 @@
+-- SPDX-License-Identifier: Apache-2.0 OR MIT
 -- Two registrations are a legal history, and so they are with a submission and a conflict after them.
 use Rattle.std.proofs.Common.{ℕ, true, false, ◌≡◌, ◌<◌, zero, suc, List, [], ◌∷◌, ◌++◌, length, refl, subst, Option}
 use Rattle.std.proofs.Common.{Some, None, arith}

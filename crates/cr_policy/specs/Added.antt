@@ -1,3 +1,4 @@
+-- SPDX-License-Identifier: Apache-2.0 OR MIT
 -- A second statement of what an accepted command adds to the history, and of its receipt: a line for each command, in
 -- terms of the command and of the facts of the history before it.
 use Rattle.std.specs.Prelude.{ℕ, Bool, true, false, not, ◌+◌, ◌==◌, ◌≡◌, List, [], ◌∷◌, length, map, filter, Option}

@@ -1,3 +1,4 @@
+-- SPDX-License-Identifier: Apache-2.0 OR MIT
 -- HiddenPayload and Removal: which two histories give a user one view, and which entries may be left out of a history
 -- without a change of that view.
 use Rattle.std.specs.Prelude.{ℕ, ◌≡◌, false, List, [], ◌∷◌, ◌++◌, Option, Some, IsTrue}

@@ -1,3 +1,4 @@
+-- SPDX-License-Identifier: Apache-2.0 OR MIT
 -- The laws of views: what can be read off one, that it suffices to judge and to answer, and what every legal
 -- history keeps.
 use Rattle.std.specs.Prelude.{ℕ, true, false, ◌≡◌, List, [], ◌∷◌, ◌++◌, Option, Some, None, is_some, IsTrue}

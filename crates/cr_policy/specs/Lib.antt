@@ -1,3 +1,4 @@
+-- SPDX-License-Identifier: Apache-2.0 OR MIT
 -- ---- definitions: what an entry shows whom, what follows from a view, and which histories are legal
 pub mod Part
 pub mod Sighting

@@ -1,3 +1,4 @@
+-- SPDX-License-Identifier: Apache-2.0 OR MIT
 -- The terms in which MayDo and MayRead say who may do what, as a committee says it: of a history, and of the timestamp
 -- of the request. They rest on facts of the history only: not on the lists of checks (Checks), nor on what these lists
 -- read of phases, of roles, and of when a paper is accepted.

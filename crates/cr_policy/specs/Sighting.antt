@@ -1,3 +1,4 @@
+-- SPDX-License-Identifier: Apache-2.0 OR MIT
 -- What one entry shows: its kind and its paper, and of its other parts those that are shown.
 use Rattle.std.specs.Prelude.{ℕ, Bool, true, false, List, Option, Some, None, unwrap_or, if◌then◌else◌}
 use Rattle.cr_base.specs.declared.entry.EntryKind.{EntryKind}

@@ -1,3 +1,4 @@
+-- SPDX-License-Identifier: Apache-2.0 OR MIT
 -- Sight and View: what an entry shows a user, and what the user sees of a history, by the trigger table (Triggers).
 use Rattle.std.specs.Prelude.{Bool, ℕ, List, [], ◌∷◌, ◌++◌, Option}
 use Rattle.cr_base.specs.declared.entry.Stamped.{Stamped}

@@ -1,3 +1,4 @@
+-- SPDX-License-Identifier: Apache-2.0 OR MIT
 -- ViewFacts and Quotas: what a view says of the conference, of its papers and of its reader, by folds over the view. A
 -- definition ending in `_seen` gives what one sighting tells of a fact, at most one value.
 use Rattle.std.specs.Prelude.{ℕ, Bool, true, false, List, [], ◌∷◌, Option, Some, None, is_some}

@@ -1,3 +1,4 @@
+-- SPDX-License-Identifier: Apache-2.0 OR MIT
 -- What a view keeps of the numbers of its reader's commands. The number of an entry is shown only to the user who made
 -- it, who is shown all of it.
 use Rattle.std.specs.Prelude.{ℕ, Bool, false, List, [], ◌∷◌, length, filter, Option, Some, None, unwrap_or}

@@ -1,3 +1,4 @@
+-- SPDX-License-Identifier: Apache-2.0 OR MIT
 -- The laws of the witness: its histories are legal, its readers see what is written of them, and of two bulks one is
 -- accepted and one refused.
 use Rattle.std.specs.Prelude.{ℕ, ◌≡◌, List, [], ◌∷◌, length, Some, None, Ok, Err, IsTrue, codes}

@@ -1,3 +1,4 @@
+// SPDX-License-Identifier: Apache-2.0 OR MIT
 //! Which parts of the history a user sees, and what follows: the visibility policy, the view that it selects,
 //! judgement and answer by a view, and legal histories. Theorems that the program doesn't rest on are in crates of
 //! their own.

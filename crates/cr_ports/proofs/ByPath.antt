@@ -1,3 +1,4 @@
+-- SPDX-License-Identifier: Apache-2.0 OR MIT
 -- What a map by path has at each, after a change at one.
 use Rattle.std.proofs.Common.{arith, ◌≡◌, ◌∙◌, sym, ap, refl, ℕ, List, [], Bool, true, false, cond, Option, Some, None}
 use Rattle.std.proofs.Common.{is_some, IsFalse, String, Vec, Global}

@@ -1,3 +1,4 @@
+-- SPDX-License-Identifier: Apache-2.0 OR MIT
 -- Doors in memory, one behind the other, and the connections that they take.
 use Rattle.std.proofs.Common.{◌≡◌, ◌∙◌, ℕ, suc, ◌+◌, List, [], ◌∷◌, ◌++◌, map, take, drop, flat_map, replicate, All}
 use Rattle.std.proofs.Common.{Some, refl, sym, ap, arith, append_assoc}

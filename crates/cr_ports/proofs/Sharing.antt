@@ -1,3 +1,4 @@
+-- SPDX-License-Identifier: Apache-2.0 OR MIT
 -- The shares of doors add up to the connections.
 use Rattle.std.proofs.Common.{◌≡◌, ◌∙◌, ℕ, zero, suc, ◌+◌, ◌-◌, ◌*◌, ◌/◌, ◌%◌, ◌<◌, ◌≤◌, min, sum, [], ◌∷◌, length}
 use Rattle.std.proofs.Common.{Bool, true, false, nat_lt, if◌then◌else◌, refl, sym, ap, arith, suc-mul, mul-le-mul_right}

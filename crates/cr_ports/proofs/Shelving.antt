@@ -1,3 +1,4 @@
+-- SPDX-License-Identifier: Apache-2.0 OR MIT
 -- What a choice by path is at each.
 use Rattle.std.proofs.Common.{◌≡◌, ◌≢◌, ◌∙◌, sym, ap, refl, ℕ, List, Bool, true, false, cond}
 use Rattle.std.proofs.lemmas.Slice.Eq.{bytes_eq-Decides}

@@ -1,3 +1,4 @@
+-- SPDX-License-Identifier: Apache-2.0 OR MIT
 -- Which calls of something in memory fail.
 use Rattle.std.specs.Prelude.{◌≡◌, ℕ, List, Bool, ◌==◌}
 use Rattle.std.specs.List.{list_any}

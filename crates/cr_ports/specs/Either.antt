@@ -1,3 +1,4 @@
+-- SPDX-License-Identifier: Apache-2.0 OR MIT
 -- A keeper of one of two kinds, and what a shelf has at each path that takes one shelf for journals and another for all
 -- else.
 use Rattle.std.specs.Prelude.{◌≡◌, ◌⊎◌, eqb, ℕ, Bool, true, false, List, [], ◌∷◌, Option, cond, is_some, IsTrue}

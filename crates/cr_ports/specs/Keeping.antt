@@ -1,3 +1,4 @@
+-- SPDX-License-Identifier: Apache-2.0 OR MIT
 -- What a keeper's calls do to its rows and to its count of faults.
 use Rattle.std.specs.Prelude.{◌≡◌, ◌≢◌, ℕ, ◌≤◌, List, ◌++◌, Bool, true, false, Option, Some, None, Result, Ok, Err}
 use Rattle.cr_base.specs.declared.row.Row.{Row}

@@ -1,3 +1,4 @@
+-- SPDX-License-Identifier: Apache-2.0 OR MIT
 -- Streams in memory, as contracts see them, and what each of their calls does.
 use Rattle.std.specs.Prelude.{◌≡◌, ℕ, List, length, ◌++◌, ◌||◌, ◌&&◌, not, ◌==◌, min, if◌then◌else◌}
 use Rattle.cr_ports.specs.Count.{counted}

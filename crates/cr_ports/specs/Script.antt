@@ -1,3 +1,4 @@
+-- SPDX-License-Identifier: Apache-2.0 OR MIT
 -- How a stream in memory is told to behave, call by call.
 use Rattle.std.specs.Prelude.{◌≡◌, ℕ, List, min, max, Option, Some, None, slice_get}
 use Rattle.cr_ports.specs.Calls.{Advances, Listed}

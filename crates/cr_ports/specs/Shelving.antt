@@ -1,3 +1,4 @@
+-- SPDX-License-Identifier: Apache-2.0 OR MIT
 -- What stands at each path of a shelf, and what a shut does to it.
 use Rattle.std.specs.Prelude.{◌≡◌, ◌≢◌, ◌⊎◌, ℕ, List, [], ◌++◌, Bool, IsTrue, is_some, Option, Some, None, cond}
 use Rattle.std.specs.Prelude.{Result, Err, String, string_bytes, Vec, ⊤}

@@ -1,3 +1,4 @@
+// SPDX-License-Identifier: Apache-2.0 OR MIT
 //! Clocks in memory.
 ghost use Rattle.std.specs.Prelude.{◌≡◌, ◌≢◌, ◌≤◌, ℕ, List, None, Option, Some, drop, slice_get, IfOk};
 ghost use Rattle.cr_ports.specs.Calls.{Advances};

@@ -1,3 +1,4 @@
+// SPDX-License-Identifier: Apache-2.0 OR MIT
 //! A door in memory, which tells all that it did.
 ghost use Rattle.std.specs.Prelude.{◌≡◌, ◌+◌, ◌≤◌, ℕ, List, Option, Some, [], length, IfOk, IsTrue};
 ghost use Rattle.std.specs.Prelude.{IsFalse, is_some, vec_len, vec_capacity, if◌then◌else◌};

@@ -1,3 +1,4 @@
+// SPDX-License-Identifier: Apache-2.0 OR MIT
 //! A keeper of one of two kinds.
 ghost use Rattle.cr_ports.specs.Either.{either, either_alike, either_kind, either_left, either_opens};
 ghost use Rattle.cr_ports.specs.Either.{either_rows_alike, either_told};

@@ -1,3 +1,4 @@
+// SPDX-License-Identifier: Apache-2.0 OR MIT
 //! A shelf of two: one for journals, one for all else.
 ghost use Rattle.std.specs.Prelude.{◌≡◌, ◌+◌};
 ghost use Rattle.cr_ports.specs.Either.{MayBeShut, by_path, is_journal, side};

@@ -1,3 +1,4 @@
+// SPDX-License-Identifier: Apache-2.0 OR MIT
 //! What opens doors at an address.
 ghost use Rattle.std.specs.Prelude.{◌≡◌, ◌<◌, ℕ, List, Option, Some, IfSome, IsFalse, All, map, sum_by};
 ghost use Rattle.cr_ports.specs.Count.{Gains};

@@ -1,3 +1,4 @@
+// SPDX-License-Identifier: Apache-2.0 OR MIT
 //! A list of rows that only grows.
 ghost use Rattle.std.specs.Prelude.{◌≡◌, ◌<◌, ◌∷◌, ℕ, Bool, List, length, Option, IfOk, IfSome, OnOk, OnErr, slice_get};
 ghost use Rattle.std.specs.Prelude.{Err, IsTrue, Some, is_some};

@@ -1,3 +1,4 @@
+// SPDX-License-Identifier: Apache-2.0 OR MIT
 //! Keepers in memory, which tell all their rows.
 ghost use Rattle.std.specs.Prelude.{◌≡◌, ◌≢◌, ◌<◌, ◌++◌, ◌↔◌, ℕ, List, [], IfOk, IfSome};
 ghost use Rattle.std.specs.Prelude.{OnOk, OnErr, IsTrue, Some, Result, length, slice_get, false, true};

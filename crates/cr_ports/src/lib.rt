@@ -1,3 +1,4 @@
+// SPDX-License-Identifier: Apache-2.0 OR MIT
 //! The outside as traits: streams, keepers of rows and the shelves that open them, clocks, and gates that give
 //! connections. Implementations in memory, and adapters.
 //!

@@ -1,3 +1,4 @@
+// SPDX-License-Identifier: Apache-2.0 OR MIT
 //! What opens keepers by their paths.
 ghost use Rattle.std.specs.Prelude.{◌≡◌, ◌≢◌, ◌↔◌, [], ℕ, Bool, List, Option, Some, IfOk, IsTrue, IfSome};
 ghost use Rattle.cr_base.specs.declared.row.Row.{Row};

@@ -1,3 +1,4 @@
+// SPDX-License-Identifier: Apache-2.0 OR MIT
 //! A shelf in memory, which tells the rows at all its paths.
 ghost use Rattle.std.specs.Prelude.{◌≡◌, ◌≢◌, ◌+◌, ◌^◌, ◌-◌, ◌↔◌, ℕ, List, min, IfOk, IfSome, OnOk, IsTrue, IsFalse};
 ghost use Rattle.std.specs.Prelude.{Some, [], false};

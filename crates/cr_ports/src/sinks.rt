@@ -1,3 +1,4 @@
+// SPDX-License-Identifier: Apache-2.0 OR MIT
 //! A sink in memory, which tells all that it took, and the answers that were begun.
 ghost use Rattle.std.specs.Prelude.{◌≡◌, ◌≢◌, ◌≤◌, ◌+◌, ◌++◌, Some, length, IfOk, vec_len, vec_capacity};
 ghost use Rattle.cr_ports.specs.Count.{Rises};

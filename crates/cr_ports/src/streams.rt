@@ -1,3 +1,4 @@
+// SPDX-License-Identifier: Apache-2.0 OR MIT
 //! The trusted edge: std's readers and writers, which tell a port no content.
 //!
 //! What an adapter does to the bytes that its stream itself tells, as one in memory does, stands in

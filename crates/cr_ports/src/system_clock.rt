@@ -1,3 +1,4 @@
+// SPDX-License-Identifier: Apache-2.0 OR MIT
 //! The trusted edge: std's clock, which tells a port nothing of what it will give.
 //!
 //! What the adapter makes of the time that the system tells stands in a clause of its own.

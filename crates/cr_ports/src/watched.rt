@@ -1,3 +1,4 @@
+// SPDX-License-Identifier: Apache-2.0 OR MIT
 //! Who is told of what a shelf opens and of what its keepers append.
 ghost use Rattle.std.specs.Prelude.{◌≡◌};
 

@@ -1,3 +1,4 @@
+// SPDX-License-Identifier: Apache-2.0 OR MIT
 //! Writes all bytes of a text, piece by piece.
 ghost use Rattle.std.specs.Prelude.{[], ◌∷◌, OnOk, OnErr};
 ghost use Rattle.cr_ports.specs.Writing.{AnswerBreaksOff, BreaksOff, Writes, WritesAnswers, outlet_of};

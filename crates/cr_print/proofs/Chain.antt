@@ -1,3 +1,4 @@
+-- SPDX-License-Identifier: Apache-2.0 OR MIT
 -- One piece after another, where there is room.
 use Rattle.std.proofs.Common.{ℕ, ◌+◌, ◌≤◌, List, ◌++◌, append_assoc, arith, ◌∙◌, ap}
 use Rattle.cr_json.specs.Put.{Bytes, Puts}

@@ -1,3 +1,4 @@
+-- SPDX-License-Identifier: Apache-2.0 OR MIT
 -- The answer to a lack of memory, computed, but for the text of its date.
 use Rattle.std.proofs.Common.{◌≡◌, ℕ, List, [], ◌∷◌, ◌++◌, true, false, codes, append_assoc, refl, ap, sym, ◌∙◌}
 use Rattle.std.specs.Fmt.{digits}

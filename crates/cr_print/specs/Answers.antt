@@ -1,3 +1,4 @@
+-- SPDX-License-Identifier: Apache-2.0 OR MIT
 -- The bytes of whole answers, each sent as its request wants.
 use Rattle.std.specs.Prelude.{ℕ, List, [], ◌++◌, Bool, true, if◌then◌else◌, codes, length, map}
 use Rattle.cr_base.specs.declared.accepted.AcceptedPaper.{AcceptedPaper}

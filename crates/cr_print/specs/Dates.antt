@@ -1,3 +1,4 @@
+-- SPDX-License-Identifier: Apache-2.0 OR MIT
 -- The field Date of an answer (RFC 9110, section 6.6.1): a moment as an IMF-fixdate (section 5.6.7), as `httpdate` has
 -- that of a day and a time.
 use Rattle.std.specs.Prelude.{ℕ, ◌/◌, List, ◌++◌, codes}

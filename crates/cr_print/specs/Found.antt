@@ -1,3 +1,4 @@
+-- SPDX-License-Identifier: Apache-2.0 OR MIT
 -- The papers that a search finds, and how many they are.
 use Rattle.std.specs.Prelude.{ℕ, List, ◌++◌, Some, codes, decimal, length, map}
 use Rattle.cr_base.specs.declared.found.FoundPaper.{FoundPaper}

@@ -1,3 +1,4 @@
+-- SPDX-License-Identifier: Apache-2.0 OR MIT
 -- The status line and the fields of an answer (RFC 9112, sections 4 and 5; RFC 9110, sections 8, 10.2.1 and 11.6.1).
 use Rattle.std.specs.Prelude.{ℕ, List, [], ◌++◌, Bool, if◌then◌else◌, codes, decimal}
 use Rattle.http.specs.StatusCode.{code_digits}

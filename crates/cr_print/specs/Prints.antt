@@ -1,3 +1,4 @@
+-- SPDX-License-Identifier: Apache-2.0 OR MIT
 -- A whole answer appended to a buffer.
 use Rattle.std.specs.Prelude.{◌≡◌, ℕ, ◌≤◌, List, ◌++◌, vec_capacity, Result, OnOk, OnErr}
 use Rattle.cr_json.specs.Put.{Bytes}

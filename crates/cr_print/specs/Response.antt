@@ -1,3 +1,4 @@
+-- SPDX-License-Identifier: Apache-2.0 OR MIT
 -- The content that tells what a paper's authors responded.
 use Rattle.std.specs.Prelude.{ℕ, List, Some, codes}
 use Rattle.json.specs.Print.{quoted}

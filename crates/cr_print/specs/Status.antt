@@ -1,3 +1,4 @@
+-- SPDX-License-Identifier: Apache-2.0 OR MIT
 -- The code and the phrase of each status (RFC 9110, section 15; RFC 6585, section 5; RFC 4918, section 11.5).
 use Rattle.std.specs.Prelude.{ℕ, List, codes}
 use Rattle.cr_print.specs.declared.status.Status.{Status}

@@ -1,3 +1,4 @@
+// SPDX-License-Identifier: Apache-2.0 OR MIT
 //! What everyone may know of the conference, which is written without memory.
 ghost use Rattle.cr_json.specs.Put.{Appends, HasRoom, Puts, Takes};
 ghost use Rattle.cr_print.specs.Conference.{conference_content};

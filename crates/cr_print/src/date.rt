@@ -1,3 +1,4 @@
+// SPDX-License-Identifier: Apache-2.0 OR MIT
 //! The date of an answer (RFC 9110, section 6.6.1).
 ghost use Rattle.std.specs.Prelude.{◌≡◌, length};
 ghost use Rattle.cr_print.specs.Dates.{date_text};

@@ -1,3 +1,4 @@
+// SPDX-License-Identifier: Apache-2.0 OR MIT
 //! The papers that a search finds, and how many they are.
 ghost use Rattle.cr_json.specs.Put.{Appends, HasRoom, Puts, Takes};
 ghost use Rattle.cr_print.specs.Found.{count_content, found_content};

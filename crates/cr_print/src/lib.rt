@@ -1,3 +1,4 @@
+// SPDX-License-Identifier: Apache-2.0 OR MIT
 //! The bytes of every answer, appended to a buffer whole or not at all.
 //!
 //! # Proved

@@ -1,3 +1,4 @@
+// SPDX-License-Identifier: Apache-2.0 OR MIT
 //! What a user is told of themselves.
 ghost use Rattle.cr_json.specs.Put.{Appends};
 ghost use Rattle.cr_print.specs.Me.{me_content};

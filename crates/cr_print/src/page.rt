@@ -1,3 +1,4 @@
+// SPDX-License-Identifier: Apache-2.0 OR MIT
 //! A paper's page.
 ghost use Rattle.cr_json.specs.Put.{Appends};
 ghost use Rattle.cr_print.specs.Page.{page_content};

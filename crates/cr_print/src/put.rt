@@ -1,3 +1,4 @@
+// SPDX-License-Identifier: Apache-2.0 OR MIT
 //! Bytes appended where room was made before.
 ghost use Rattle.std.specs.Prelude.{length};
 ghost use Rattle.cr_json.specs.Put.{HasRoom, Puts};

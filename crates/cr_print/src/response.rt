@@ -1,3 +1,4 @@
+// SPDX-License-Identifier: Apache-2.0 OR MIT
 //! What a paper's authors responded.
 ghost use Rattle.cr_json.specs.Put.{Appends};
 ghost use Rattle.cr_print.specs.Response.{response_content};

@@ -1,3 +1,4 @@
+-- SPDX-License-Identifier: Apache-2.0 OR MIT
 -- What the process says of its run of `top`.
 use Rattle.std.specs.Prelude.{◌≡◌, ℕ, List, Option, String}
 use Rattle.std.specs.declared.alloc.Global.{Global}

@@ -1,3 +1,4 @@
+// SPDX-License-Identifier: Apache-2.0 OR MIT
 //! The process: `top` over the arguments, standard input and output, files as stores, sockets, and the system's clock.
 //! A program's `main` only hands its runtime to `run`.
 //!

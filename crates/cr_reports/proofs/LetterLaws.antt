@@ -1,3 +1,4 @@
+-- SPDX-License-Identifier: Apache-2.0 OR MIT
 -- A form of the letter, by its parts.
 use Rattle.std.proofs.Common.{ℕ, ◌≡◌, List, ◌++◌, append_assoc, Option, Some, None, sym, ap, ◌∙◌}
 use Rattle.std.specs.Prelude.{codes, decimal}

@@ -1,3 +1,4 @@
+-- SPDX-License-Identifier: Apache-2.0 OR MIT
 -- How much each user reviews, counted seat by seat.
 use Rattle.std.specs.Prelude.{ℕ, Bool, true, false, not, ◌≡◌, ◌≤◌, ◌<◌, ◌+◌, ◌&&◌}
 use Rattle.std.specs.Prelude.{◌==◌, List, [], ◌++◌, get_or, fold, Some, if◌then◌else◌}

@@ -1,3 +1,4 @@
+// SPDX-License-Identifier: Apache-2.0 OR MIT
 //! Columns: texts and numbers filled with spaces to a width. Each call's error is that memory ran out.
 ghost use Rattle.std.specs.Prelude.{◌≡◌, ◌++◌, OnOk, replicate};
 ghost use Rattle.cr_base.specs.Reports.{in_four, in_two, to_left, to_right};

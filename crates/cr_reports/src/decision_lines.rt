@@ -1,3 +1,4 @@
+// SPDX-License-Identifier: Apache-2.0 OR MIT
 //! The report of decisions.
 ghost use Rattle.std.specs.Prelude.{◌≡◌, ◌++◌, ◌+◌, ◌<◌, ◌^◌, OnOk, Some, if◌then◌else◌, []};
 ghost use Rattle.cr_base.specs.Reports.{decision_word, decisions_end, decisions_told};

@@ -1,3 +1,4 @@
+// SPDX-License-Identifier: Apache-2.0 OR MIT
 //! The committee's reports, and letters to authors, as plain text.
 //!
 //! # Proved

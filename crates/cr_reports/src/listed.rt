@@ -1,3 +1,4 @@
+// SPDX-License-Identifier: Apache-2.0 OR MIT
 //! What reports ask of a paper's facts: whether it is told to a member of the committee line by line, and its title.
 ghost use Rattle.std.specs.Prelude.{◌≡◌};
 ghost use Rattle.cr_reports.specs.ReportLines.{is_open_seen, titled};

@@ -1,3 +1,4 @@
+// SPDX-License-Identifier: Apache-2.0 OR MIT
 //! What a query of a report is answered.
 ghost use Rattle.std.specs.Prelude.{IsSome};
 ghost use Rattle.cr_base.specs.Answering.{answer_by_role};

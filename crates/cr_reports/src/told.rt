@@ -1,3 +1,4 @@
+// SPDX-License-Identifier: Apache-2.0 OR MIT
 //! The five reports, each told or refused by the first broken rule, which takes no memory. An error says that memory
 //! ran out only if no rule is broken. A title costs its bytes.
 ghost use Rattle.std.specs.Prelude.{◌≡◌, IfOk, Some};

@@ -1,3 +1,4 @@
+-- SPDX-License-Identifier: Apache-2.0 OR MIT
 -- What passes a test: whether there is one, and which is the last.
 use Rattle.std.proofs.Common.{Bool, true, false, cond, not, ◌≡◌, ◌||◌, ◌&&◌, List, [], ◌∷◌, reverse, refl, sym, ap, ◌∙◌}
 use Rattle.std.proofs.Common.{ℕ, Option, Some, None}

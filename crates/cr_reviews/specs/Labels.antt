@@ -1,3 +1,4 @@
+-- SPDX-License-Identifier: Apache-2.0 OR MIT
 -- Which labels of a paper a set holds.
 use Rattle.std.specs.Prelude.{ℕ, Bool, false, List, slice_index_or}
 

@@ -1,3 +1,4 @@
+-- SPDX-License-Identifier: Apache-2.0 OR MIT
 -- The forms of a paper that were written under a label.
 use Rattle.std.specs.Prelude.{ℕ, Bool, not, ◌&&◌, ◌==◌, List, find, map, reverse, Option}
 use Rattle.std.specs.List.{flat_map}

@@ -1,3 +1,4 @@
+// SPDX-License-Identifier: Apache-2.0 OR MIT
 //! The forms of a paper that were written under a label, of all forms of the paper in the order in which
 //! they were written.
 ghost use Rattle.std.specs.Prelude.{◌≡◌, ◌||◌, ℕ, count_by};

@@ -1,3 +1,4 @@
+// SPDX-License-Identifier: Apache-2.0 OR MIT
 //! The table of reviews: the forms that reviewers have written, by paper, each with its label and the phase in which
 //! it was written.
 //!

@@ -1,3 +1,4 @@
+// SPDX-License-Identifier: Apache-2.0 OR MIT
 //! The forms that reviewers have written of papers.
 ghost use Rattle.std.specs.Prelude.{◌≡◌, ℕ, ◌<◌, ◌+◌, ◌^◌, [], ◌∷◌, OnOk, IfOk, length, is_some, unwrap_or};
 ghost use Rattle.std.specs.List.{filter_map};

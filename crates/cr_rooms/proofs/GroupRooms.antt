@@ -1,3 +1,4 @@
+-- SPDX-License-Identifier: Apache-2.0 OR MIT
 -- Room for what a table keeps of a group, element by element.
 use Rattle.std.proofs.Common.{ℕ, ◌≡◌, ◌<◌, List, ◌∷◌, get_or, subst, Option, Some, None}
 use Rattle.std.specs.List.{filter_map, cons_option}

@@ -1,3 +1,4 @@
+-- SPDX-License-Identifier: Apache-2.0 OR MIT
 -- For how many more values of each number there is room in a table that keeps those of a number together, as those of
 -- a paper or of a user.
 use Rattle.std.specs.Prelude.{ℕ, ◌≤◌, ◌+◌, ◌==◌, List, Option, slice_index, count_by, if◌then◌else◌}

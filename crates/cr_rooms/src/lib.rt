@@ -1,3 +1,4 @@
+// SPDX-License-Identifier: Apache-2.0 OR MIT
 //! Reserved capacity of the tables: for how many more values of each paper and user there is room. It depends on a
 //! group of entries, since these name the papers and users. The definitions and lemmas that every table cites are here
 //! (`HasRoom`, `IsNoLess`, `IsOneLess`), and no code.

@@ -1,3 +1,4 @@
+-- SPDX-License-Identifier: Apache-2.0 OR MIT
 -- One more path goes into the router.
 use Rattle.std.proofs.Common.{◌≡◌, ℕ, ◌+◌, ◌<◌, ◌≤◌, List, length, drop, map, get_or, Bool, true, false, ◌&&◌, is_none}
 use Rattle.std.proofs.Common.{Result, Ok, Err, refl, Bor, inl, inr, IsTrue}

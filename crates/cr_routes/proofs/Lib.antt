@@ -1,3 +1,4 @@
+-- SPDX-License-Identifier: Apache-2.0 OR MIT
 pub mod Adding
 pub mod Rows
 pub mod Taking

@@ -1,3 +1,4 @@
+-- SPDX-License-Identifier: Apache-2.0 OR MIT
 -- What the router finds is what the path's parts tell. The table is looked at by computing alone, in `good`,
 -- `spelt_by`, `placed`, `patterns` and `named`: another path changes nothing here.
 use Rattle.std.proofs.Common.{◌≡◌, ◌≢◌, ℕ, ◌≤◌, List, [], ◌∷◌, length, Bool, true, false, cond, ◌&&◌, nat_le, Option}

@@ -1,3 +1,4 @@
+-- SPDX-License-Identifier: Apache-2.0 OR MIT
 -- Rows whose parameters are whole parts of a path, and what stays of that when a token is taken off.
 use Rattle.std.proofs.Common.{◌≡◌, ℕ, List, [], ◌∷◌, Bool, true, false, cond, not, ◌&&◌, ◌||◌, ◌==◌, refl, IsTrue}
 use Rattle.std.proofs.lemmas.Bool.{eqb-true, and_parts}

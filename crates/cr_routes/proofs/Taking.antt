@@ -1,3 +1,4 @@
+-- SPDX-License-Identifier: Apache-2.0 OR MIT
 -- The router finds the first row that takes the path.
 use Rattle.std.proofs.Common.{◌≡◌, ℕ, zero, suc, ◌-◌, List, [], ◌∷◌, length, drop, Bool, true, false, cond, not, ◌&&◌}
 use Rattle.std.proofs.Common.{◌==◌, ltb, nat_eq, Option, Some, None, refl, sym, ap, ◌∙◌, IsTrue, ◌<◌, arith}

@@ -1,3 +1,4 @@
+-- SPDX-License-Identifier: Apache-2.0 OR MIT
 -- What a path is found to be: its resource, and what its parameters take of it. A path is told by the parts between
 -- its slashes (RFC 3986, section 3.3), and no router comes into it.
 use Rattle.std.specs.Prelude.{ℕ, List, [], ◌∷◌, length, Bool, true, false, ◌==◌, nat_le}

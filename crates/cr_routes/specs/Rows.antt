@@ -1,3 +1,4 @@
+-- SPDX-License-Identifier: Apache-2.0 OR MIT
 -- What the router holds, and what it finds, by matchit's own definitions.
 use Rattle.std.specs.Prelude.{ℕ, List, [], ◌∷◌, Bool, true, false, ◌&&◌, is_none, map, Result, Ok, Err}
 use Rattle.std.specs.Borrow.{Bor}

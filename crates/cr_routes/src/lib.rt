@@ -1,3 +1,4 @@
+// SPDX-License-Identifier: Apache-2.0 OR MIT
 //! The paths that the server knows, their methods, and what a method at a path asks for.
 //!
 //! One table lists the paths (`specs/Paths.antt`), one function what a method asks for (`specs/Asks.antt`).

@@ -1,3 +1,4 @@
+// SPDX-License-Identifier: Apache-2.0 OR MIT
 //! Methods of HTTP.
 ghost use Rattle.std.specs.Prelude.{◌≡◌};
 

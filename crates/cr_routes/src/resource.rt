@@ -1,3 +1,4 @@
+// SPDX-License-Identifier: Apache-2.0 OR MIT
 //! The paths by name.
 ghost use Rattle.std.specs.Prelude.{◌≡◌, ◌≤◌, length};
 

@@ -1,3 +1,4 @@
+// SPDX-License-Identifier: Apache-2.0 OR MIT
 //! From a path to its resource and its parameters.
 ghost use Rattle.std.specs.Prelude.{◌≡◌, IsTrue, OnOk, map, option_map};
 ghost use Rattle.cr_routes.specs.Rows.{added, fits, is_free, line, the_rows, with_path};

@@ -1,3 +1,4 @@
+-- SPDX-License-Identifier: Apache-2.0 OR MIT
 -- The papers that a search finds, by the tables.
 use Rattle.std.specs.Prelude.{ℕ, List, [], Some, filter, unwrap_or}
 use Rattle.cr_base.specs.declared.found.FoundPaper.{FoundPaper}

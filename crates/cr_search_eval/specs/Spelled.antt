@@ -1,3 +1,4 @@
+-- SPDX-License-Identifier: Apache-2.0 OR MIT
 -- Steps that spell a search.
 use Rattle.std.specs.Prelude.{◌≡◌, List}
 use Rattle.cr_base.specs.declared.search.Step.{Step}

@@ -1,3 +1,4 @@
+// SPDX-License-Identifier: Apache-2.0 OR MIT
 //! A paper of which a user asks.
 ghost use Rattle.std.specs.Prelude.{◌≡◌};
 ghost use Rattle.cr_search_eval.specs.Asked.{asked_of};

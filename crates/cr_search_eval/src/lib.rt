@@ -1,3 +1,4 @@
+// SPDX-License-Identifier: Apache-2.0 OR MIT
 //! Which papers a search finds, by the tables. A term is tried on the field that it names, as the caller is told it; a
 //! paper without a title for the caller is passed over before any term.
 //!

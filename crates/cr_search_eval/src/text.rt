@@ -1,3 +1,4 @@
+// SPDX-License-Identifier: Apache-2.0 OR MIT
 //! Texts that have a value, letters of ASCII without regard to case.
 ghost use Rattle.std.specs.Prelude.{◌≡◌, ◌<◌, length, drop, slice_index};
 ghost use Rattle.cr_base.specs.Searching.{begins_alike, contains};

@@ -1,3 +1,4 @@
+-- SPDX-License-Identifier: Apache-2.0 OR MIT
 -- What is found, and where a text stops being the beginning of a query, by what reading comes to.
 use Rattle.std.proofs.Common.{◌≡◌, inl, inr, ℕ, ◌≤◌, Bool, List, length, Option, Ok, Err, if◌then◌else◌, ap, sym, ◌∙◌}
 use Rattle.std.proofs.Common.{subst}

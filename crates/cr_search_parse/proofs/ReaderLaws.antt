@@ -1,3 +1,4 @@
+-- SPDX-License-Identifier: Apache-2.0 OR MIT
 -- What the reader makes of symbols in a row, of spaces, and of words.
 use Rattle.std.proofs.Common.{◌≡◌, ℕ, zero, suc, ◌+◌, ◌≤◌, Bool, true, false, List, [], ◌∷◌, ◌++◌, Option, Some, None}
 use Rattle.std.proofs.Common.{replicate, if◌then◌else◌, bytes_eq, option_and_then, refl, sym, ap, ◌∙◌, append_assoc}

@@ -1,3 +1,4 @@
+-- SPDX-License-Identifier: Apache-2.0 OR MIT
 -- The run that a text begins with, by how many bytes it has.
 use Rattle.std.proofs.Common.{◌≡◌, ℕ, ◌+◌, ◌<◌, ◌≤◌, Bool, true, false, not, eqb, cond, List, [], ◌∷◌, length, get_or}
 use Rattle.std.proofs.Common.{take, drop, ne_eqb, length-take-le, refl, ap, ◌∙◌, add-one, arith}

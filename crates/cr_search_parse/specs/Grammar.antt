@@ -1,3 +1,4 @@
+-- SPDX-License-Identifier: Apache-2.0 OR MIT
 -- The grammar of searches (after the HotCRP manual's) over the symbols of a text, with how each query is spelled, the
 -- tree that it is, how deep its items are nested, and how many terms it has.
 --

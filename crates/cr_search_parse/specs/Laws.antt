@@ -1,3 +1,4 @@
+-- SPDX-License-Identifier: Apache-2.0 OR MIT
 -- What a text is read as, by the grammar. The automaton of Reading only computes it: `law_reading` says that
 -- `text_read` gives this of every text, and that the grammar says nothing else of any.
 use Rattle.std.specs.Prelude.{◌≡◌, ℕ, List, Option, Result, Ok, Err}

@@ -1,3 +1,4 @@
+-- SPDX-License-Identifier: Apache-2.0 OR MIT
 pub mod Cutting
 pub mod Grammar
 pub mod Laws

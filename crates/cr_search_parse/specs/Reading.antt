@@ -1,3 +1,4 @@
+-- SPDX-License-Identifier: Apache-2.0 OR MIT
 -- The reader's states: a text is read symbol by symbol, and the steps of its search are written as its operands end
 -- (Dijkstra's shunting-yard algorithm). What a text is the grammar says (Grammar, Offsets); but it is a relation,
 -- and whoever needs a function of the text, as a wish does, takes `text_read`. What that gives is what the grammar

@@ -1,3 +1,4 @@
+-- SPDX-License-Identifier: Apache-2.0 OR MIT
 -- How a text falls into runs: spaces, parentheses, and chunks, the longest runs of everything else. A quotation mark
 -- makes a chunk of everything up to the next such mark; without one, of the rest of the text.
 use Rattle.std.specs.Prelude.{ℕ, Bool, true, false, not, ◌==◌, ◌+◌, List, [], ◌∷◌, length, if◌then◌else◌}

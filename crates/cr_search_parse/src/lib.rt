@@ -1,3 +1,4 @@
+// SPDX-License-Identifier: Apache-2.0 OR MIT
 //! The text of a search, and the one tree that it spells.
 //!
 //! # Proved

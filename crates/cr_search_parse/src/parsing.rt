@@ -1,3 +1,4 @@
+// SPDX-License-Identifier: Apache-2.0 OR MIT
 //! From the text of a search to its tree.
 ghost use Rattle.std.specs.Prelude.{◌≡◌, ◌≤◌, ℕ, length, Option, Err, IfOk};
 ghost use Rattle.cr_base.specs.Search.{Tree, all_steps, tree_of};

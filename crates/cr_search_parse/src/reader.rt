@@ -1,3 +1,4 @@
+// SPDX-License-Identifier: Apache-2.0 OR MIT
 //! A reader of searches: the steps are written as their operands end (Dijkstra's shunting-yard algorithm).
 ghost use Rattle.std.specs.Prelude.{◌≡◌, ◌≤◌, ◌<◌, ◌+◌, ◌*◌, ◌++◌, length, replicate, Some, IfOk, OnOk};
 ghost use Rattle.cr_base.specs.declared.search.Step.TheVariants as step;

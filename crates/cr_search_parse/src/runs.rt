@@ -1,3 +1,4 @@
+// SPDX-License-Identifier: Apache-2.0 OR MIT
 //! How a text falls into runs.
 ghost use Rattle.std.specs.Prelude.{◌≡◌, ◌<◌, ◌≤◌, false, length, drop, ◌∷◌};
 ghost use Rattle.cr_search_parse.specs.Runs.{runs_of, run_length};

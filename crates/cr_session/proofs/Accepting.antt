@@ -1,3 +1,4 @@
+-- SPDX-License-Identifier: Apache-2.0 OR MIT
 -- What a wish is that draws something: a command or a bulk that is judged and accepted.
 use Rattle.std.proofs.Common.{ℕ, Bool, true, false, cond, ◌≡◌, List, refl, ap, ◌∙◌, Option, Some, None, Result, Ok, Err}
 use Rattle.std.proofs.lemmas.Slice.Eq.{bytes_eq-Decides}

@@ -1,3 +1,4 @@
+-- SPDX-License-Identifier: Apache-2.0 OR MIT
 -- Turns of any passes: the groups that a keeper tried and hasn't kept are those of wishes that were lost on the last
 -- history.
 use Rattle.std.proofs.Common.{◌≡◌, ◌∙◌, ◌⊎◌, inl, inr, ⊎_elim, List, [], ◌∷◌, Bool, true, false, Option, Some, None}
@@ -11,10 +12,10 @@ use Rattle.cr_ports.specs.Stopping.{IsAmong}
 use Rattle.cr_book.specs.Seen.{SeenBook}
 use Rattle.cr_book.specs.Stopping.{Adding, Keepers}
 use Rattle.cr_session.specs.Told.{drawn}
-use Rattle.cr_session.specs.Passing.{BookTurn, IsTurnOf, AddsNothing, JudgesOneOf}
+use Rattle.cr_session.specs.Passing.{BookTurn, IsTurnOf}
 use Rattle.cr_session.specs.Replay.{JudgedWish, history_after}
 use Rattle.cr_session.specs.Stopping.{IsLostGroup}
-use Rattle.cr_session.specs.Tries.{Tries, Nothing, fate_of, tries_of}
+use Rattle.cr_session.specs.Tries.{Tries, fate_of, tries_of}
 use Rattle.cr_session.proofs.StopLaws.{after-lost, after-nothing}
 
 -- a turn of one of these wishes is one of more

@@ -1,3 +1,4 @@
+-- SPDX-License-Identifier: Apache-2.0 OR MIT
 -- Reads that are made only where more is wanted, by the wishes before.
 use Rattle.std.proofs.Common.{◌≡◌, ◌∙◌, ℕ, ◌+◌, List, [], ◌++◌, length, Option, refl, sym, ap, subst, append_assoc}
 use Rattle.std.proofs.Common.{append-nil, inl, inr}

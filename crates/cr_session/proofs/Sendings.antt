@@ -1,3 +1,4 @@
+-- SPDX-License-Identifier: Apache-2.0 OR MIT
 -- An answer is written in two parts.
 use Rattle.std.proofs.Common.{◌≡◌, ◌++◌, refl, append-nil}
 use Rattle.cr_print.specs.declared.sending.Sending.{Sending}

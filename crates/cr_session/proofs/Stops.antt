@@ -1,3 +1,4 @@
+-- SPDX-License-Identifier: Apache-2.0 OR MIT
 -- What a stop may leave of a connection that is served on the one pass of a lock.
 use Rattle.std.proofs.Common.{◌≡◌, ◌∙◌, ⊎_elim, ℕ, List, [], ◌++◌, Option, Some, IfSome, ap, subst, arith}
 use Rattle.cr_wire.specs.declared.what.Wish.{Wish}

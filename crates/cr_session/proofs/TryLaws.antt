@@ -1,3 +1,4 @@
+-- SPDX-License-Identifier: Apache-2.0 OR MIT
 -- What a turn does with the keeper, by what its wish draws.
 use Rattle.std.proofs.Common.{◌≡◌, Bool, true, false, Option, Some, None, IsSome, Result, Ok, Err, IsTrue, ap}
 use Rattle.std.proofs.Common.{sym, subst, refl}

@@ -1,3 +1,4 @@
+-- SPDX-License-Identifier: Apache-2.0 OR MIT
 -- More wishes behind those that were judged, and more bytes behind the text.
 use Rattle.std.proofs.Common.{◌≡◌, ℕ, ◌+◌, List, ◌++◌, length, sym, ap, subst}
 use Rattle.std.proofs.lemmas.List.{map-append, length-map}

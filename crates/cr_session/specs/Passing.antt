@@ -1,6 +1,7 @@
+-- SPDX-License-Identifier: Apache-2.0 OR MIT
 -- Wishes that are judged in turns of one pass of the book's lock: between two of its
 -- turns other passes may take theirs.
-use Rattle.std.specs.Prelude.{ℕ, ◌≡◌, ◌≤◌, ◌⊎◌, ◌+◌, List, [], ◌∷◌, Bool, true, IsSome, MatchBool}
+use Rattle.std.specs.Prelude.{ℕ, ◌≡◌, ◌≤◌, ◌⊎◌, ◌+◌, List, [], ◌∷◌, true, IsSome, MatchBool}
 use mathlib.Core.List.{IsPrefix}
 use Rattle.cr_base.specs.declared.entry.Stamped.{Stamped}
 use Rattle.cr_book.specs.Seen.{SeenBook}

@@ -1,3 +1,4 @@
+-- SPDX-License-Identifier: Apache-2.0 OR MIT
 -- Replay: wishes that were judged one after another, their answers, and the history that they lead to.
 use Rattle.std.specs.Prelude.{ℕ, ◌≡◌, ◌≤◌, ◌+◌, List, [], ◌∷◌, Bool, true}
 use Rattle.std.specs.Prelude.{false, if◌then◌else◌, map, IsSome, MatchBool}

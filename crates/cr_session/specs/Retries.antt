@@ -1,3 +1,4 @@
+-- SPDX-License-Identifier: Apache-2.0 OR MIT
 -- RetriesActOnce: a command or a bulk that its caller sends again, with its number and its mark, acts once, also if the
 -- opening history has it. If what was sent again is left out, the history in the end is the same; and what was sent
 -- again is answered as the first was.

@@ -1,3 +1,4 @@
+-- SPDX-License-Identifier: Apache-2.0 OR MIT
 -- What one connection did, from its first byte to its end, however its turns are taken: ConnectionInHistory where they
 -- are those of a pass, and ConnectionBytes where they are all the turns that there are.
 use Rattle.std.specs.Prelude.{◌≡◌, ◌⊎◌, ℕ, ◌+◌, ◌≤◌, length, List, [], ◌∷◌, ◌++◌, Option, Some, None, Bool}

@@ -1,3 +1,4 @@
+-- SPDX-License-Identifier: Apache-2.0 OR MIT
 -- What a stop of the machine may leave of what one connection's wishes added: CrashKeepsGroups, by the wishes.
 use Rattle.std.specs.Prelude.{◌≡◌, ◌⊎◌, ℕ, List, [], ◌∷◌, ◌++◌, true, Some, IsTrue}
 use Rattle.cr_base.specs.declared.row.Row.{Row}

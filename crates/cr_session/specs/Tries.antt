@@ -1,3 +1,4 @@
+-- SPDX-License-Identifier: Apache-2.0 OR MIT
 -- What one turn does with the keeper of a book's rows, and what turns do with it one after another.
 use Rattle.std.specs.Prelude.{◌≡◌, List, [], ◌∷◌, Bool, true, false, Option, Some, None, Ok, Err, IsTrue, ⊤}
 use Rattle.cr_base.specs.Drawn.{Drawn}

@@ -1,3 +1,4 @@
+-- SPDX-License-Identifier: Apache-2.0 OR MIT
 -- TwoRuns: if two runs agree in a user's wishes, their timestamps, which of their answers close the connection, and the
 -- user's view before each of them, they agree in every byte that the user is answered (in the manner of
 -- noninterference: Goguen and Meseguer, 1982).

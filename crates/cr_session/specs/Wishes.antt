@@ -1,3 +1,4 @@
+-- SPDX-License-Identifier: Apache-2.0 OR MIT
 -- The wishes that a text spells from request number n on, each at a timestamp that the text doesn't tell, and how the
 -- text ends: Wishes is the case of number 0.
 use Rattle.std.specs.Prelude.{ℕ, List}

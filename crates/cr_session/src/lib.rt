@@ -1,3 +1,4 @@
+// SPDX-License-Identifier: Apache-2.0 OR MIT
 //! One connection, bytes to bytes: a request is read, judged in one turn, and answered. All claims are of
 //! `serve_connection` (`connection`, `ConnectionInHistory`), unless another clause is named.
 //!

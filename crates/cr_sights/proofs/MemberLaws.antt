@@ -1,3 +1,4 @@
+-- SPDX-License-Identifier: Apache-2.0 OR MIT
 -- Members of a line, some at a time.
 use Rattle.std.proofs.Common.{Bool, List, ◌++◌}
 use Rattle.cr_json.specs.Json.{Added, Member}

@@ -1,3 +1,4 @@
+-- SPDX-License-Identifier: Apache-2.0 OR MIT
 -- What is shown of an entry, where tests tell which of its parts are shown.
 use Rattle.std.proofs.Common.{Bool, true, false, ◌≡◌, ◌∙◌, [], ◌∷◌, refl, sym, ap, Option, Some}
 use Rattle.std.specs.Bool.{then_some}

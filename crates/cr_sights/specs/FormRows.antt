@@ -1,3 +1,4 @@
+-- SPDX-License-Identifier: Apache-2.0 OR MIT
 -- What the rows of the trigger table for a form ask: the form's position, and the reader's standing at the paper.
 use Rattle.std.specs.Prelude.{Bool, ◌&&◌, ◌||◌}
 use Rattle.cr_base.specs.declared.standing.Standing.{Standing}

@@ -1,3 +1,4 @@
+-- SPDX-License-Identifier: Apache-2.0 OR MIT
 -- The lines of a view: an object of JSON (RFC 8259, section 4), with no spaces, and a line feed for each sighting.
 use Rattle.std.specs.Prelude.{ℕ, List, ◌++◌, length, Option, Some, None, unwrap_or, codes, decimal}
 use Rattle.std.specs.List.{flat_map}

@@ -1,3 +1,4 @@
+-- SPDX-License-Identifier: Apache-2.0 OR MIT
 -- The position of each entry of a history among those of its series.
 use Rattle.std.specs.Prelude.{◌≡◌, ℕ, ◌+◌, length, take, drop, IfSome}
 use Rattle.std.specs.List.{slice_get}

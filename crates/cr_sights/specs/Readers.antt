@@ -1,3 +1,4 @@
+-- SPDX-License-Identifier: Apache-2.0 OR MIT
 -- What the trigger table asks of a reader, by the tables.
 use Rattle.std.specs.Prelude.{ℕ, Option, Some}
 use Rattle.cr_base.specs.Accounts.{role_in}

@@ -1,3 +1,4 @@
+-- SPDX-License-Identifier: Apache-2.0 OR MIT
 -- Series: what several entries may give a paper, one after another. They are numbered, 29 for each paper: its texts are
 -- at index 0, the forms under a label at its ordinal, the contents at 27, and the decisions on it at 28.
 use Rattle.std.specs.Prelude.{◌≡◌, ℕ, ◌+◌, ◌/◌, ◌%◌, ◌==◌, ◌&&◌, nat_le, Bool, true, false, not}

@@ -1,3 +1,4 @@
+-- SPDX-License-Identifier: Apache-2.0 OR MIT
 -- What the stamp of an entry shows its maker, and no other reader.
 use Rattle.std.specs.Prelude.{ℕ, ◌==◌, [], ◌∷◌}
 use Rattle.cr_base.specs.declared.entry.EntryKind.{EntryKind}

@@ -1,3 +1,4 @@
+// SPDX-License-Identifier: Apache-2.0 OR MIT
 //! What decisions show a reader.
 ghost use Rattle.std.specs.Prelude.{◌≡◌, ◌||◌, ◌&&◌, Some};
 ghost use Rattle.cr_base.specs.declared.entry.EntryKind.TheVariants as kinds;

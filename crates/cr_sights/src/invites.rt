@@ -1,3 +1,4 @@
+// SPDX-License-Identifier: Apache-2.0 OR MIT
 //! What invitations to review a paper from outside the committee, and their ends, show a reader.
 ghost use Rattle.std.specs.Prelude.{◌≡◌, ◌||◌, Some};
 ghost use Rattle.cr_base.specs.declared.entry.EntryKind.TheVariants as kinds;

@@ -1,3 +1,4 @@
+// SPDX-License-Identifier: Apache-2.0 OR MIT
 //! What an entry shows a user, found in the tables, and the lines of a view, made without a view in memory. Of any
 //! history, legal or not.
 //!

@@ -1,3 +1,4 @@
+// SPDX-License-Identifier: Apache-2.0 OR MIT
 //! The members of a view line, each written where its part is shown.
 ghost use Rattle.std.specs.Prelude.{◌≡◌, List, ℕ, Some, decimal, option_map};
 ghost use Rattle.std.specs.Option.{option_copied};

@@ -1,3 +1,4 @@
+// SPDX-License-Identifier: Apache-2.0 OR MIT
 //! What entries that make a paper and its texts, tell its authors and its content, and withdraw it show a reader.
 ghost use Rattle.std.specs.Prelude.{◌≡◌, ◌||◌, ◌&&◌, ◌∷◌, [], Bool, not, Some};
 ghost use Rattle.cr_base.specs.Decisions.{is_published};

@@ -1,3 +1,4 @@
+// SPDX-License-Identifier: Apache-2.0 OR MIT
 //! At which place the last entry of each series is.
 ghost use Rattle.std.specs.Prelude.{◌≡◌, ℕ, ◌<◌, [], length, if◌then◌else◌, slice_index, IfOk, OnOk};
 ghost use Rattle.cr_base.specs.Lists.{is_number};

@@ -1,3 +1,4 @@
+// SPDX-License-Identifier: Apache-2.0 OR MIT
 //! Where an entry is among those of its series.
 use std::marker::Model;
 

@@ -1,3 +1,4 @@
+// SPDX-License-Identifier: Apache-2.0 OR MIT
 //! Where each entry of a history is among those of its series, entry by entry.
 ghost use Rattle.std.specs.Prelude.{◌≡◌, ◌+◌, ◌<◌, ◌≤◌, ◌&&◌, length, not, IfOk, OnOk};
 ghost use Rattle.cr_base.specs.History.{opens};

@@ -1,3 +1,4 @@
+// SPDX-License-Identifier: Apache-2.0 OR MIT
 //! What assignments and their ends show a reader.
 ghost use Rattle.std.specs.Prelude.{◌≡◌, ◌||◌, ◌&&◌, IfSome, Some, is_some, not};
 ghost use Rattle.cr_base.specs.declared.entry.EntryKind.TheVariants as kinds;

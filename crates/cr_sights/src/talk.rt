@@ -1,3 +1,4 @@
+// SPDX-License-Identifier: Apache-2.0 OR MIT
 //! What comments and authors' responses show a reader.
 ghost use Rattle.std.specs.Prelude.{◌≡◌, ◌||◌, ◌&&◌, Some, not, unwrap_or};
 ghost use Rattle.cr_base.specs.declared.entry.EntryKind.TheVariants as kinds;

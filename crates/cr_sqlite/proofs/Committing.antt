@@ -1,3 +1,4 @@
+-- SPDX-License-Identifier: Apache-2.0 OR MIT
 -- Calls in a row that commit nothing, and a commit behind them.
 use Rattle.std.proofs.Common.{◌≡◌, refl, arith, inl}
 use Rattle.sqlite.specs.State.{State, Survives}

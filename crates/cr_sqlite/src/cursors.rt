@@ -1,3 +1,4 @@
+// SPDX-License-Identifier: Apache-2.0 OR MIT
 //! The four tables read side by side, merged by place.
 use crate::reason::{Reason, StoreError};
 use crate::record::{place_of, read};

@@ -1,3 +1,4 @@
+// SPDX-License-Identifier: Apache-2.0 OR MIT
 //! A keeper over a connection.
 ghost use Rattle.std.specs.Prelude.{◌≡◌, ℕ, [], None, false, IfOk, IfErr};
 ghost use Rattle.cr_ports.specs.Keeping.{HasCause};

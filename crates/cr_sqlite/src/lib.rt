@@ -1,3 +1,4 @@
+// SPDX-License-Identifier: Apache-2.0 OR MIT
 //! A shelf and a keeper over SQLite files: four tables of rows, by kind of entry, and one with the version of these
 //! tables.
 //!

@@ -1,3 +1,4 @@
+// SPDX-License-Identifier: Apache-2.0 OR MIT
 //! What was wrong where a shelf or a keeper failed.
 use sqlite::{Error, ErrorCode};
 use std::fmt;

@@ -1,3 +1,4 @@
+// SPDX-License-Identifier: Apache-2.0 OR MIT
 //! A row of a keeper as a row of a table, and back.
 use crate::reason::{Reason, StoreError};
 use crate::table::Table;

@@ -1,3 +1,4 @@
+// SPDX-License-Identifier: Apache-2.0 OR MIT
 //! The tables of a store: made where a file has none, brought to this version where they are of an older one, else
 //! looked at.
 ghost use Rattle.std.specs.Prelude.{◌≡◌, false};

@@ -1,3 +1,4 @@
+// SPDX-License-Identifier: Apache-2.0 OR MIT
 //! A shelf of files.
 ghost use Rattle.std.specs.Prelude.{◌≡◌, ℕ, None, false, ⊤, IfOk};
 ghost use Rattle.cr_ports.specs.Count.{Gains};

@@ -1,3 +1,4 @@
+// SPDX-License-Identifier: Apache-2.0 OR MIT
 //! The four tables of rows.
 
 /// A text with the name of a table, which ends with the version of the tables.

@@ -1,3 +1,4 @@
+// SPDX-License-Identifier: Apache-2.0 OR MIT
 //! The program's shelf: a journal if the path ends in `.cj`, otherwise a SQLite file.
 //!
 //! # Proved

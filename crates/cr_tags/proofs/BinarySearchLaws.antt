@@ -1,3 +1,4 @@
+-- SPDX-License-Identifier: Apache-2.0 OR MIT
 -- What a search says of the tags of a paper, and what all are with one on in its place, or off.
 use Rattle.std.proofs.Common.{ℕ, Bool, true, false, ◌≡◌, ◌∙◌, List, length, set, insert, Result, Ok, Err, MatchResult}
 use Rattle.std.proofs.Common.{sym, ap, subst, arith}

@@ -1,3 +1,4 @@
+-- SPDX-License-Identifier: Apache-2.0 OR MIT
 -- Whether a tag is among those that are for a reader.
 use Rattle.std.proofs.Common.{Bool, true, false, cond, ◌≡◌, ◌&&◌, ◌||◌, ℕ, List, [], ◌∷◌, Option, refl, ap}
 use Rattle.std.specs.Prelude.{map, filter}

@@ -1,3 +1,4 @@
+// SPDX-License-Identifier: Apache-2.0 OR MIT
 //! The table of tags: which are on at which papers, and whose the private ones are.
 //!
 //! # Proved

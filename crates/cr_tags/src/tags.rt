@@ -1,3 +1,4 @@
+// SPDX-License-Identifier: Apache-2.0 OR MIT
 //! The tags that are on.
 ghost use Rattle.std.specs.Prelude.{◌≡◌, ◌<◌, ◌&&◌, [], ◌∷◌, OnOk, IfOk, MatchResult};
 ghost use Rattle.std.specs.Prelude.{Some, true, false, is_some, length, slice_index};

@@ -1,3 +1,4 @@
+-- SPDX-License-Identifier: Apache-2.0 OR MIT
 -- What contracts see of the table of comments and responses.
 use Rattle.cr_base.specs.Talk.{TalkState}
 use Rattle.cr_talk.specs.Room.{TalkRooms}

@@ -1,3 +1,4 @@
+// SPDX-License-Identifier: Apache-2.0 OR MIT
 //! The table of comments and of authors' responses, by paper, and how many comments each user has written.
 //!
 //! # Proved

@@ -1,3 +1,4 @@
+// SPDX-License-Identifier: Apache-2.0 OR MIT
 //! The comments on papers, and what authors respond.
 ghost use Rattle.std.specs.Prelude.{◌≡◌, ◌+◌, [], ◌∷◌, OnOk, IfOk, IfSome, Some, length, is_some, unwrap_or};
 ghost use Rattle.std.specs.List.{filter_map};

@@ -1,3 +1,4 @@
+-- SPDX-License-Identifier: Apache-2.0 OR MIT
 pub mod ToldEach
 pub mod ToldKnown
 pub mod ToldLists

@@ -1,3 +1,4 @@
+-- SPDX-License-Identifier: Apache-2.0 OR MIT
 -- A part of an entry, as a user is shown it, is told or left out: so it is of each sighting of its kind.
 use Rattle.std.proofs.Common.{◌≡◌, ℕ, Bool, true, false, [], ◌∷◌, ◌++◌, ◌||◌, refl, sym, Option}
 use Rattle.std.specs.Prelude.{IsTrue, is_some}

@@ -1,3 +1,4 @@
+-- SPDX-License-Identifier: Apache-2.0 OR MIT
 -- What a paper's page tells is what the view shows of the paper: a lemma a key.
 use Rattle.std.proofs.Common.{◌≡◌, ℕ, Bool, true, false, List, [], ◌∷◌, refl, sym, ap, subst, ◌∙◌, ◌||◌, ◌&&◌, Option}
 use Rattle.std.proofs.Common.{Some, None, eqb, arith, length, ◌≤◌}

@@ -1,3 +1,4 @@
+-- SPDX-License-Identifier: Apache-2.0 OR MIT
 -- The reviews that are answered are those that the view shows.
 use Rattle.std.proofs.Common.{◌≡◌, ℕ, Bool, true, false, List, [], ◌∷◌, ◌++◌, append-nil, refl, sym, ap, ◌∙◌, ◌||◌}
 use Rattle.std.proofs.Common.{◌&&◌, Option, Some, None, eqb, arith}

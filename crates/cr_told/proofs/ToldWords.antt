@@ -1,3 +1,4 @@
+-- SPDX-License-Identifier: Apache-2.0 OR MIT
 -- The words of the rules, and those of the bounds.
 use Rattle.std.proofs.Common.{◌≡◌, ℕ, refl, ap, ◌&&◌, Option, Some, None}
 use Rattle.std.specs.Prelude.{not}

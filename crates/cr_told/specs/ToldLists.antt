@@ -1,3 +1,4 @@
+-- SPDX-License-Identifier: Apache-2.0 OR MIT
 -- Told of lists: what a view shows of bids, reviewers, tags, reviews, comments, responses, contents and accepted
 -- papers, and of its reader, is what the answers list. Who may know it is said by the bounds (ShownTo), and what it is
 -- by the parts that sightings show.

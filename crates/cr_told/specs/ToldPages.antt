@@ -1,3 +1,4 @@
+-- SPDX-License-Identifier: Apache-2.0 OR MIT
 -- Told: what a view shows, some answer tells. Here it is said of each key of a paper's page when it is there and what
 -- it holds, in a committee's terms (the HotCRP manual's title, abstract, authors, conflicts, review preferences,
 -- reviewers, tags and decisions, by CoCon's phases): by the parts that the view's sightings show, and not by the page's

@@ -1,3 +1,4 @@
+-- SPDX-License-Identifier: Apache-2.0 OR MIT
 -- Told of every part: each part that each sighting of a view shows is told by an answer, or left out for a reason that
 -- is named here. First it is said when an answer tells a part, kind by kind, then what is left out.
 use Rattle.std.specs.Prelude.{ℕ, Bool, true, false, not, ◌≡◌, ◌==◌, ◌&&◌, ◌||◌, List, [], ◌∷◌}

@@ -1,3 +1,4 @@
+-- SPDX-License-Identifier: Apache-2.0 OR MIT
 -- Told of all: each sighting on a paper has its place: a key of the paper's page or a list that is answered. There are
 -- two exceptions. The reader's own entry may be on a paper for which the reader is no longer eligible (of a form: nor
 -- reads it as an external; of what a chair does: that the reader doesn't oversee). And who is invited is told only to

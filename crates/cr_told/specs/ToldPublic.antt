@@ -1,3 +1,4 @@
+-- SPDX-License-Identifier: Apache-2.0 OR MIT
 -- Told of the conference: the answers tell what everyone is shown of accounts, the phase, the mode and deadlines.
 use Rattle.std.specs.Prelude.{ℕ, ◌≡◌, List, length, map, Option, Some, None, unwrap_or}
 use Rattle.std.specs.List.{flat_map}

@@ -1,3 +1,4 @@
+-- SPDX-License-Identifier: Apache-2.0 OR MIT
 -- Told of reports: to whom each is answered, and that its lines have what the view shows. How a line is laid out is
 -- said in Reports. Who reviews a paper, in the load, and the forms of the letter are the facts of the view by which the
 -- reviewers on a page and the reviews are answered.

@@ -1,3 +1,4 @@
+-- SPDX-License-Identifier: Apache-2.0 OR MIT
 -- Told of reviews: what a view shows of the forms on a paper is what the answer lists, in a committee's terms.
 use Rattle.std.specs.Prelude.{ℕ, Bool, true, false, ◌≡◌, ◌&&◌, ◌||◌, List, []}
 use Rattle.std.specs.Prelude.{◌++◌, map, Option, Some, None, unwrap_or, if◌then◌else◌}

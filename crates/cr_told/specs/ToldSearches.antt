@@ -1,3 +1,4 @@
+-- SPDX-License-Identifier: Apache-2.0 OR MIT
 -- Told of searches: a paper is found if and only if the view shows a title of it, and the terms hold of what the
 -- answers tell the reader of it.
 use Rattle.std.specs.Prelude.{ℕ, true, false, ◌≡◌, List, [], length, map, filter, Option, Some, None, is_some}

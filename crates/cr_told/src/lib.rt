@@ -1,3 +1,4 @@
+// SPDX-License-Identifier: Apache-2.0 OR MIT
 //! What a view shows, some answer tells: nothing is withheld. No crate uses this one.
 //!
 //! # Proved

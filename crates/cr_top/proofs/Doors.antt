@@ -1,3 +1,4 @@
+-- SPDX-License-Identifier: Apache-2.0 OR MIT
 -- Doors that workers served: what is told of them, by how the workers ended.
 use Rattle.std.proofs.Common.{◌≡◌, ◌≢◌, ◌∙◌, ℕ, ◌+◌, inl, inr, List, [], ◌∷◌, ◌++◌, length, map, Bool, false, Option}
 use Rattle.std.proofs.Common.{Some, None, refl, sym, ap, ap₂, subst, arith}

@@ -1,3 +1,4 @@
+-- SPDX-License-Identifier: Apache-2.0 OR MIT
 -- The line that tells how many entries there are, written in pieces.
 use Rattle.std.proofs.Common.{ℕ, ◌++◌, Result, Ok, Err}
 use Rattle.std.specs.Prelude.{codes, decimal, is_ok, true, false, OnOk, OnErr}

@@ -1,3 +1,4 @@
+-- SPDX-License-Identifier: Apache-2.0 OR MIT
 -- The turns of connections are those of the wishes that were judged in them.
 use Rattle.std.proofs.Common.{◌≡◌, ◌+◌, ◌++◌, inl, inr, List, [], ◌∷◌, sym, subst, arith}
 use Rattle.cr_base.specs.History.{History}

@@ -1,3 +1,4 @@
+-- SPDX-License-Identifier: Apache-2.0 OR MIT
 -- What was done for a job, of the one that the words name.
 use Rattle.std.proofs.Common.{◌≡◌, ℕ, List, Bool, Option, inr, sym, subst}
 use Rattle.cr_words.specs.Job.{NamedJob}

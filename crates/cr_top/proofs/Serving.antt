@@ -1,3 +1,4 @@
+-- SPDX-License-Identifier: Apache-2.0 OR MIT
 -- One connection, with its keeper handed back; over a keeper that counts no fault nothing is lost.
 use Rattle.std.proofs.Common.{◌≡◌, ◌++◌, ℕ, List, [], None, Option, false, refl, sym, ap, subst, arith}
 use Rattle.cr_base.specs.Lists.{listed}

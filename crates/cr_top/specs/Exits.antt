@@ -1,3 +1,4 @@
+-- SPDX-License-Identifier: Apache-2.0 OR MIT
 -- The exit of a run, by how its connection ended, and its status.
 use Rattle.std.specs.Prelude.{ℕ, Bool, true, false}
 use Rattle.cr_ports.specs.declared.keeper.KeeperError.{KeeperError}

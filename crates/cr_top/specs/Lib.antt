@@ -1,3 +1,4 @@
+-- SPDX-License-Identifier: Apache-2.0 OR MIT
 pub use Rattle.cr_words.specs.Words.{confd_words}
 pub mod Words
 pub mod Exits

@@ -1,3 +1,4 @@
+-- SPDX-License-Identifier: Apache-2.0 OR MIT
 -- What a list of wishes is answered, and where it leads, if nothing is lost: each wish is answered on the history to
 -- which the wishes before it lead.
 use Rattle.std.specs.Prelude.{ℕ, ◌+◌, List, [], ◌∷◌}

@@ -1,3 +1,4 @@
+-- SPDX-License-Identifier: Apache-2.0 OR MIT
 -- The words of a command line: clap takes them, or refuses them.
 use Rattle.std.specs.Prelude.{◌≡◌, ◌≢◌, List, [], map, true, String, string_bytes, Some}
 use Rattle.std.specs.declared.alloc.Global.{Global}

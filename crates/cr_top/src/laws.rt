@@ -1,3 +1,4 @@
+// SPDX-License-Identifier: Apache-2.0 OR MIT
 //! A law of what a run leaves.
 ghost use Rattle.std.specs.Prelude.{◌≡◌, ℕ, Bool, List, Some, IfSome};
 ghost use Rattle.cr_base.specs.History.{History};

@@ -1,3 +1,4 @@
+// SPDX-License-Identifier: Apache-2.0 OR MIT
 //! The top call: a command line, an input, an output, a shelf, gates and a clock, and the exit that they come to.
 //!
 //! # Proved

@@ -1,3 +1,4 @@
+// SPDX-License-Identifier: Apache-2.0 OR MIT
 //! Many connections over a store.
 ghost use Rattle.std.specs.Prelude.{◌≡◌, ◌≢◌, ◌⊎◌, ◌≤◌, ◌*◌, ◌^◌, ℕ, List, length, map, Some, is_ok, IfOk, IfErr};
 ghost use Rattle.std.specs.Prelude.{Bool, IsTrue};

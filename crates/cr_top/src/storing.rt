@@ -1,3 +1,4 @@
+// SPDX-License-Identifier: Apache-2.0 OR MIT
 //! Jobs on a store: its rows are opened as a book, worked on, and shut.
 ghost use Rattle.std.specs.Prelude.{◌≡◌, ◌≢◌, ◌⊎◌, ℕ, List, Some, IfErr, IfOk, IsTrue};
 ghost use Rattle.cr_base.specs.History.{History};

@@ -1,3 +1,4 @@
+-- SPDX-License-Identifier: Apache-2.0 OR MIT
 -- One of a list: a test that she passes, one of them passes.
 use Rattle.std.proofs.Common.{Bool, true, ◌≡◌, List, [], ◌∷◌, refl, ap, ◌∙◌, ◌||◌}
 use Rattle.std.specs.Prelude.{map}

@@ -1,3 +1,4 @@
+-- SPDX-License-Identifier: Apache-2.0 OR MIT
 -- So every bulk is judged the same where entries that no rule reads stand besides, row by row.
 use Rattle.std.proofs.Common.{ℕ, Bool, true, cond, ◌≡◌, ◌+◌, List, [], ◌∷◌, ◌++◌, length, refl, sym, ap, subst}
 use Rattle.std.proofs.Common.{◌∙◌, append-nil, Some, None, Result, Ok, Err}

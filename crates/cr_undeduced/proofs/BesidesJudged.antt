@@ -1,3 +1,4 @@
+-- SPDX-License-Identifier: Apache-2.0 OR MIT
 -- So every command is judged the same where entries that no rule reads stand besides.
 use Rattle.std.proofs.Common.{ℕ, ◌≡◌, length, refl, sym, ap, ◌∙◌, Option}
 use Rattle.std.proofs.Common.{None}

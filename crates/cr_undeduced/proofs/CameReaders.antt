@@ -1,3 +1,4 @@
+-- SPDX-License-Identifier: Apache-2.0 OR MIT
 -- Whoever is shown another's form on a paper came to be somebody who reads or learns of it.
 use Rattle.std.proofs.Common.{ℕ, Bool, true, false, ◌≡◌, refl, sym, ap, ◌∙◌, ◌||◌, ◌&&◌, Some, eqb, subst}
 use Rattle.std.specs.Prelude.{not, IsTrue}

@@ -1,3 +1,4 @@
+-- SPDX-License-Identifier: Apache-2.0 OR MIT
 -- A history with another payload in every place: what the other histories of a group are made of.
 use Rattle.std.proofs.Common.{ℕ, Bool, true, false, ◌≡◌, ◌||◌, zero, suc, List, [], ◌∷◌, ◌++◌, length, refl, sym, ap}
 use Rattle.std.specs.Prelude.{map, not}

@@ -1,3 +1,4 @@
+-- SPDX-License-Identifier: Apache-2.0 OR MIT
 -- What the table shows somebody of an entry she was told, by the words of the bounds: so it is known, and stays.
 use Rattle.std.proofs.Common.{ℕ, Bool, true, false, ◌≡◌, List, [], ◌∷◌, refl, sym, ap, ◌∙◌, ◌||◌, ◌&&◌}
 use Rattle.std.proofs.Common.{Option, Some}

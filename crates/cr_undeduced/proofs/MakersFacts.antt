@@ -1,3 +1,4 @@
+-- SPDX-License-Identifier: Apache-2.0 OR MIT
 -- No rule reads who made such an entry: where others made some, the facts are the same.
 use Rattle.std.proofs.Common.{ℕ, Bool, true, false, cond, ◌≡◌, suc, List, [], ◌∷◌, ◌++◌, refl, sym, ap, ◌∙◌}
 use Rattle.std.proofs.Common.{None, eqb, ◌||◌, ◌&&◌}

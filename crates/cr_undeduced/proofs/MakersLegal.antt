@@ -1,3 +1,4 @@
+-- SPDX-License-Identifier: Apache-2.0 OR MIT
 -- A legal history is legal where whoever had the right made its entries.
 use Rattle.std.proofs.Common.{ℕ, Bool, true, false, cond, ◌≡◌, suc, zero, List, [], ◌∷◌, ◌++◌, length, eqb, refl, sym}
 use Rattle.std.proofs.Common.{ap, subst, ◌∙◌, ◌||◌, ◌&&◌, append_assoc, append-nil, Option, Some, None, Result, Ok, Err}

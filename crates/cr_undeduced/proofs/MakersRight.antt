@@ -1,3 +1,4 @@
+-- SPDX-License-Identifier: Apache-2.0 OR MIT
 -- What a user was allowed to do, whoever has the right is allowed to do in her place, and it adds the same entry.
 use Rattle.std.proofs.Common.{ℕ, Bool, true, false, ◌≡◌, List, [], ◌∷◌, ◌++◌, refl, sym, ◌∙◌, Option, Some, None}
 use Rattle.std.proofs.Common.{◌||◌, ◌&&◌, arith, eqb}

@@ -1,3 +1,4 @@
+-- SPDX-License-Identifier: Apache-2.0 OR MIT
 -- So the sentences on who may do what say the same of two such histories, and commands add the same.
 use Rattle.std.proofs.Common.{ℕ, true, false, ◌≡◌, List, [], ◌∷◌, length, refl, ap, ◌∙◌, Option, Some, None}
 use Rattle.std.proofs.Common.{◌||◌, ◌&&◌, ◌+◌}

@@ -1,3 +1,4 @@
+-- SPDX-License-Identifier: Apache-2.0 OR MIT
 -- Whoever isn't shown the makers sees the same of both histories.
 use Rattle.std.proofs.Common.{ℕ, Bool, true, false, ◌≡◌, suc, zero, [], ◌∷◌, ◌++◌, eqb, refl, sym, ap}
 use Rattle.std.proofs.Common.{subst, ◌∙◌, ◌||◌, ◌&&◌, Option, Some, None}

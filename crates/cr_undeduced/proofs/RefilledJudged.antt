@@ -1,3 +1,4 @@
+-- SPDX-License-Identifier: Apache-2.0 OR MIT
 -- A command that is accepted is accepted with other texts, where the facts that its rules read are the same; and adds
 -- the same but for these.
 use Rattle.std.proofs.Common.{ℕ, Bool, true, false, cond, ◌≡◌, ◌≤◌, ◌+◌, suc, List, [], ◌∷◌, length, refl, sym}

@@ -1,3 +1,4 @@
+-- SPDX-License-Identifier: Apache-2.0 OR MIT
 -- On a history that is filled in anew, the commands and the rows that were accepted are accepted, filled in too.
 use Rattle.std.proofs.Common.{ℕ, Bool, zero, true, false, cond, ◌≡◌, suc, List, [], ◌∷◌, length, refl}
 use Rattle.std.proofs.Common.{sym, ap, subst, ◌∙◌, Option, Some, None, Ok}

@@ -1,3 +1,4 @@
+-- SPDX-License-Identifier: Apache-2.0 OR MIT
 -- The parts of a legal history's entries are within the bounds of commands, so what mixes them with other parts that
 -- are so is within these.
 use Rattle.std.proofs.Common.{ℕ, Bool, true, false, ◌≡◌, suc, zero, List, [], ◌∷◌, ◌++◌, length, refl, sym, subst}

@@ -1,3 +1,4 @@
+-- SPDX-License-Identifier: Apache-2.0 OR MIT
 -- Whoever isn't shown what is filled in sees the same.
 use Rattle.std.proofs.Common.{ℕ, ◌≡◌, suc, List, [], ◌∷◌, ◌++◌, refl, sym, ap, Option, Some}
 use Rattle.std.specs.List.{list_any}

@@ -1,3 +1,4 @@
+-- SPDX-License-Identifier: Apache-2.0 OR MIT
 -- Under other stamps a history tells the rules the same, and the entries of a command stay under one stamp.
 use Rattle.std.proofs.Common.{ℕ, Bool, true, false, ◌≡◌, suc, List, [], ◌∷◌, ◌++◌, length, refl, sym, ap, subst, ◌∙◌}
 use Rattle.std.proofs.Common.{Option, Some, None, append_assoc, append-nil}

@@ -1,3 +1,4 @@
+-- SPDX-License-Identifier: Apache-2.0 OR MIT
 -- A legal history is legal under other stamps, where these are such as its commands might have had.
 use Rattle.std.proofs.Common.{ℕ, Bool, true, false, cond, ◌+◌, ◌≡◌, List, [], ◌∷◌, ◌++◌, length, refl, sym, ap, subst}
 use Rattle.std.proofs.Common.{◌∙◌, Option, Some, None, Result, Ok, Err, append_assoc, append-nil}

@@ -1,3 +1,4 @@
+-- SPDX-License-Identifier: Apache-2.0 OR MIT
 -- Whoever looked sees the same under other stamps: hers are her own.
 use Rattle.std.proofs.Common.{ℕ, Bool, true, false, ◌≡◌, suc, zero, List, [], ◌∷◌, ◌++◌, refl, sym, ap, ◌∙◌, Option}
 use Rattle.std.proofs.Common.{None}

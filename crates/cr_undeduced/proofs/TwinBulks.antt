@@ -1,3 +1,4 @@
+-- SPDX-License-Identifier: Apache-2.0 OR MIT
 -- The rows of a bulk that was accepted are accepted where the two have each other's place, with the other's name where a
 -- row names one of them.
 use Rattle.std.proofs.Common.{ℕ, Bool, true, false, cond, ◌≡◌, ◌+◌, suc, List, [], ◌∷◌, ◌++◌, length, eqb, refl, sym}

@@ -1,3 +1,4 @@
+-- SPDX-License-Identifier: Apache-2.0 OR MIT
 -- A legal history is legal where twins have each other's place at the paper.
 use Rattle.std.proofs.Common.{ℕ, Bool, true, false, cond, ◌≡◌, ◌≤◌, ◌+◌, List, [], ◌∷◌, ◌++◌, length, eqb, refl}
 use Rattle.std.proofs.Common.{sym, ap, subst, ◌∙◌, ◌||◌, ◌&&◌, append_assoc, append-nil, Option, Some, None, Result, Ok}

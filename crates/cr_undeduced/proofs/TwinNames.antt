@@ -1,3 +1,4 @@
+-- SPDX-License-Identifier: Apache-2.0 OR MIT
 -- Whoever has registered has a name, by which she is found, and which a row can tell.
 use Rattle.std.proofs.Common.{ℕ, Bool, true, false, cond, ◌≡◌, List, [], ◌∷◌, eqb, refl, sym, ap, ◌∙◌, ◌||◌}
 use Rattle.std.proofs.Common.{Some, None}

@@ -1,3 +1,4 @@
+-- SPDX-License-Identifier: Apache-2.0 OR MIT
 -- So what a user may do at the paper, the other may where they have each other's place; and all else may be done as
 -- before.
 use Rattle.std.proofs.Common.{ℕ, true, ◌≡◌, ◌+◌, List, length, refl, sym, ap, ◌∙◌}

@@ -1,3 +1,4 @@
+-- SPDX-License-Identifier: Apache-2.0 OR MIT
 -- Whoever is shown no names at a paper is told neither which of the twins made an entry there, nor which it names.
 use Rattle.std.proofs.Common.{ℕ, Bool, true, false, cond, ◌≡◌, [], ◌∷◌, ◌++◌, eqb, refl, sym, ap, ◌∙◌, ◌||◌}
 use Rattle.std.proofs.Common.{◌&&◌, Option, Some, arith}

@@ -1,3 +1,4 @@
+-- SPDX-License-Identifier: Apache-2.0 OR MIT
 -- Whoever isn't told which of the twins made an entry, nor which of them it names, sees the same of both histories.
 use Rattle.std.proofs.Common.{ℕ, Bool, true, false, cond, ◌≡◌, suc, zero, [], ◌∷◌, ◌++◌, eqb, refl, sym, ap}
 use Rattle.std.proofs.Common.{◌∙◌, ◌&&◌, Option, Some, None}

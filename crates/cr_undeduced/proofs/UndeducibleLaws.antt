@@ -1,3 +1,4 @@
+-- SPDX-License-Identifier: Apache-2.0 OR MIT
 -- The other history of a legal one is legal.
 use Rattle.std.proofs.Common.{ℕ, ◌≡◌, ◌≤◌, suc, List, [], ◌∷◌, ◌++◌, sym, ap, subst, ◌∙◌, Option, Some, None}
 use Rattle.std.specs.Prelude.{map, IsTrue}

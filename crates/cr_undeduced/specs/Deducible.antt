@@ -1,3 +1,4 @@
+-- SPDX-License-Identifier: Apache-2.0 OR MIT
 -- Deducible: what a view tells of a legal history though no part of it says so: numbers count what came before, and if
 -- there has been only one chair, an entry that only chairs make is that chair's.
 use Rattle.std.specs.Prelude.{ℕ, ◌≡◌, ◌≤◌, ◌&&◌, length, Option, All, IsTrue}

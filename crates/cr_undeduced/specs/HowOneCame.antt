@@ -1,3 +1,4 @@
+-- SPDX-License-Identifier: Apache-2.0 OR MIT
 -- HowOneCame: how a user came to be what lets them see or do something (CoCon's traceback: Popescu, Lammich and Hou,
 -- JAR 2021). Each clause names the entry that made the user so, between those before and after it: its place is that of
 -- a row in a store. Who may do what is said in the terms of Sentences.

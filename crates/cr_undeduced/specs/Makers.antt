@@ -1,3 +1,4 @@
+-- SPDX-License-Identifier: Apache-2.0 OR MIT
 -- Makers: an entry may have been made by any other user who had the right then, if no rule reads who made it. This
 -- holds of phases, modes, deadlines, appointments, dismissals, revisions, withdrawals, responses, conflicts, bids,
 -- assignments, invitations, tags and decisions. It doesn't hold of registrations, submissions and co-authors, which

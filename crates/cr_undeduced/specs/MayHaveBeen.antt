@@ -1,3 +1,4 @@
+-- SPDX-License-Identifier: Apache-2.0 OR MIT
 -- MayHaveBeen: entries that may have been made besides, or not been made, while all later entries stay legal.
 use Rattle.std.specs.Prelude.{ℕ, ◌≡◌, List, [], ◌∷◌, ◌++◌, Option, None, IsFalse}
 use Rattle.std.specs.List.{AllByRecursion}

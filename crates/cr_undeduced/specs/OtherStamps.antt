@@ -1,3 +1,4 @@
+-- SPDX-License-Identifier: Apache-2.0 OR MIT
 -- OtherStamps: the timestamps, numbers and marks of commands, which only the users who gave them are shown; and a
 -- history in which others gave theirs at other timestamps and by other numbers, or by none.
 use Rattle.std.specs.Prelude.{ℕ, Bool, ◌≡◌, false, not, suc, List, [], ◌∷◌, map, Option, Some, None, unwrap_or, IsTrue}

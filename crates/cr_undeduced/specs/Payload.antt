@@ -1,3 +1,4 @@
+-- SPDX-License-Identifier: Apache-2.0 OR MIT
 -- Payload: what an entry may tell that no rule reads, and the entry with other values of some of it.
 use Rattle.std.specs.Prelude.{ℕ, Bool, ◌≡◌, ◌≤◌, ◌||◌, ◌&&◌, not, suc, List, [], ◌∷◌, length, Option, IsTrue}
 use Rattle.std.specs.Prelude.{if◌then◌else◌}

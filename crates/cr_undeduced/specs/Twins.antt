@@ -1,3 +1,4 @@
+-- SPDX-License-Identifier: Apache-2.0 OR MIT
 -- Twins: two users of one role, of whom neither wrote a paper, change places at it. A user who was shown neither of
 -- them by name can't tell which of the two bid, reviews, comments, was declared in conflict or invited, decided or
 -- assigned there.

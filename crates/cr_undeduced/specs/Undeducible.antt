@@ -1,3 +1,4 @@
+-- SPDX-License-Identifier: Apache-2.0 OR MIT
 -- Undeducible: a group of users can rule out no value of what none of them was shown whenever they looked, by all that
 -- they saw together (nondeducibility: Sutherland, NCSC 1986; with a bound on what may be learnt: Kanav, Lammich and
 -- Popescu, CAV 2014). What a user is shown is said by the bounds (ShownTo), not by the trigger table.

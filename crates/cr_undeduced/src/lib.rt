@@ -1,3 +1,4 @@
+// SPDX-License-Identifier: Apache-2.0 OR MIT
 //! Nothing hidden can be ruled out, by any group; and how somebody came to what they may see. All claims are of legal
 //! histories. The comment of each has its premises.
 //!

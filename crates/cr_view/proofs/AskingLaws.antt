@@ -1,3 +1,4 @@
+-- SPDX-License-Identifier: Apache-2.0 OR MIT
 -- Whether a query may be asked, alone: as it is told where something is read besides.
 use Rattle.std.proofs.Common.{ℕ, ◌≡◌, List, Option, Result, Ok, Err}
 use Rattle.cr_base.specs.declared.command.Query.{Query}

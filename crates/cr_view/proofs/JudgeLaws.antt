@@ -1,3 +1,4 @@
+-- SPDX-License-Identifier: Apache-2.0 OR MIT
 -- What is made of what a list of checks lets pass.
 use Rattle.std.proofs.Common.{◌≡◌, List, sym, ap, ◌∙◌, Result, Ok, Err}
 use Rattle.cr_base.specs.declared.reply.Rule.{Rule}

@@ -1,3 +1,4 @@
+-- SPDX-License-Identifier: Apache-2.0 OR MIT
 -- A paper's page, of what is asked of it once and of its lists.
 use Rattle.std.proofs.Common.{ℕ, Bool, true, false, ◌≡◌, ◌∙◌, List, refl, sym, ap, subst, Option, Some, Result, Ok, Err}
 use Rattle.std.specs.Prelude.{IsOk, IsErrAnd, unwrap_or}

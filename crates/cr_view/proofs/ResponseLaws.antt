@@ -1,3 +1,4 @@
+-- SPDX-License-Identifier: Apache-2.0 OR MIT
 -- What is answered of an authors' response.
 use Rattle.std.proofs.Common.{ℕ, Bool, true, ◌≡◌, List, [], sym, ap, ◌∙◌, Option, Some, Result, Ok, Err}
 use Rattle.std.specs.Prelude.{is_some, unwrap_or}

@@ -1,3 +1,4 @@
+-- SPDX-License-Identifier: Apache-2.0 OR MIT
 -- What a page tells of bids and reviewers, by reads of the tables.
 use Rattle.std.proofs.Common.{ℕ, Bool, true, false, cond, ◌≡◌, ◌+◌, ◌<◌, List, ◌∷◌, ◌++◌, length, drop, get_or, refl}
 use Rattle.std.proofs.Common.{sym, ap, ◌∙◌, Option, Some, None}

@@ -1,3 +1,4 @@
+-- SPDX-License-Identifier: Apache-2.0 OR MIT
 -- Room in the tables, of all of them.
 use Rattle.std.proofs.Common.{◌≤◌, arith}
 use Rattle.cr_base.specs.History.{History}

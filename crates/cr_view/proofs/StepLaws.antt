@@ -1,3 +1,4 @@
+-- SPDX-License-Identifier: Apache-2.0 OR MIT
 -- How many records of a paper are read for its page.
 use Rattle.std.proofs.Common.{ℕ, Bool, true, false, cond, ◌≡◌, ◌≤◌, ◌+◌, ◌-◌, ◌*◌, ◌&&◌, List, length, sym, subst}
 use Rattle.std.proofs.Common.{arith, Option, Some, Result, Ok}

@@ -1,3 +1,4 @@
+-- SPDX-License-Identifier: Apache-2.0 OR MIT
 -- What everyone is told of papers, by the tables.
 use Rattle.std.specs.Prelude.{ℕ, List, None, map, filter}
 use Rattle.cr_base.specs.declared.accepted.AcceptedPaper.{AcceptedPaper}

@@ -1,3 +1,4 @@
+-- SPDX-License-Identifier: Apache-2.0 OR MIT
 -- Which callers may ask which queries here.
 use Rattle.std.specs.Prelude.{ℕ, Option, IsSome}
 use Rattle.cr_base.specs.declared.command.Query.{Query}

@@ -1,3 +1,4 @@
+-- SPDX-License-Identifier: Apache-2.0 OR MIT
 -- What a caller is told of the comments on a paper, by the tables.
 use Rattle.std.specs.Prelude.{ℕ, not, List, map, Option, Result}
 use Rattle.cr_base.specs.declared.command.Query.TheVariants as queries

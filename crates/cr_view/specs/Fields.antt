@@ -1,3 +1,4 @@
+-- SPDX-License-Identifier: Apache-2.0 OR MIT
 -- What single fields tell of a paper, by the tables.
 use Rattle.std.specs.Prelude.{ℕ, Bool, false, not, ◌||◌, zero, suc, List, [], Option, Some, None, is_some}
 use Rattle.std.specs.Prelude.{unwrap_or}

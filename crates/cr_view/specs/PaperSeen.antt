@@ -1,3 +1,4 @@
+-- SPDX-License-Identifier: Apache-2.0 OR MIT
 -- What is read of a paper and of the lists that its page tells, for a caller: each once.
 use Rattle.std.specs.Prelude.{ℕ, Bool, false, ◌≡◌, ◌+◌, ◌*◌, List, length, Option}
 use Rattle.std.specs.Prelude.{Some, unwrap_or, is_some, if◌then◌else◌}

@@ -1,3 +1,4 @@
+-- SPDX-License-Identifier: Apache-2.0 OR MIT
 -- Which papers are planned, by the tables.
 use Rattle.std.specs.Prelude.{ℕ, Bool, not, ◌&&◌, Option, if◌then◌else◌}
 use Rattle.cr_base.specs.Papers.{is_withdrawn_at}

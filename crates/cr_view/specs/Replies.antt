@@ -1,3 +1,4 @@
+-- SPDX-License-Identifier: Apache-2.0 OR MIT
 -- What a caller is told of a query.
 use Rattle.std.specs.Prelude.{ℕ, Bool, true, not, ◌&&◌, ◌≡◌, ◌≢◌, List, []}
 use Rattle.std.specs.Prelude.{map, filter, Option, Some, None, unwrap_or, Result, Ok, Err, IsOk, if◌then◌else◌}

@@ -1,3 +1,4 @@
+-- SPDX-License-Identifier: Apache-2.0 OR MIT
 -- What reports read of a paper, by the tables.
 use Rattle.std.specs.Prelude.{ℕ, List, Option, length, map}
 use Rattle.cr_base.specs.History.{FormTold}

@@ -1,3 +1,4 @@
+-- SPDX-License-Identifier: Apache-2.0 OR MIT
 -- What a caller is told of an authors' response, by the tables.
 use Rattle.std.specs.Prelude.{ℕ, List, Option, is_some, Result}
 use Rattle.std.specs.Option.{option_and_then}

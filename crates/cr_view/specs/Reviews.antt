@@ -1,3 +1,4 @@
+-- SPDX-License-Identifier: Apache-2.0 OR MIT
 -- What a caller is told of a paper's reviews, by the tables.
 use Rattle.std.specs.Prelude.{ℕ, Bool, not, ◌&&◌, ◌==◌, List, map, Option}
 use Rattle.std.specs.Prelude.{Some, None, unwrap_or, Result, if◌then◌else◌}

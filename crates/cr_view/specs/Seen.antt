@@ -1,3 +1,4 @@
+-- SPDX-License-Identifier: Apache-2.0 OR MIT
 -- What contracts see of all tables.
 use Rattle.cr_base.specs.Tables.{Tables}
 use Rattle.cr_view.specs.Room.{Rooms}

@@ -1,3 +1,4 @@
+// SPDX-License-Identifier: Apache-2.0 OR MIT
 //! Which papers are accepted, who may ask for them, and what everyone is told of them.
 ghost use Rattle.std.specs.Prelude.{◌≡◌, ◌++◌, [], IfOk, None, OnOk, unwrap_or};
 ghost use Rattle.cr_base.specs.Answering.{accepted_by, accepted_paper, login_wanted};

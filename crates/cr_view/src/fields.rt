@@ -1,3 +1,4 @@
+// SPDX-License-Identifier: Apache-2.0 OR MIT
 //! Single lists and fields of what a caller is told of a paper, beside what its facts tell, each read by itself,
 //! for callers that need no more. Each says what it costs, and none takes memory.
 ghost use Rattle.std.specs.Prelude.{◌≡◌, ◌≤◌, [], Some, is_some, not, if◌then◌else◌};

@@ -1,3 +1,4 @@
+// SPDX-License-Identifier: Apache-2.0 OR MIT
 //! All tables of a conference as one: a caller's phase, mode, role and relations, answers to queries, and what entries
 //! change. No view is made. cr_search_eval, cr_reports and cr_plans answer searches, reports and plans.
 //!

@@ -1,3 +1,4 @@
+// SPDX-License-Identifier: Apache-2.0 OR MIT
 //! The lists of which a paper's page tells: each is read where it is told, and only then.
 ghost use Rattle.std.specs.Prelude.{◌≡◌, ◌+◌, Some, map, length, unwrap_or, if◌then◌else◌};
 ghost use Rattle.std.specs.Option.{option_copied, option_map};

@@ -1,3 +1,4 @@
+// SPDX-License-Identifier: Apache-2.0 OR MIT
 //! What reports ask of the tables: who may have one, and single facts of a paper, each read alone. None takes memory.
 ghost use Rattle.std.specs.Prelude.{◌≡◌, ◌≤◌, ◌+◌, ◌*◌, ℕ, None, Some, length};
 ghost use Rattle.std.specs.Option.{option_copied, option_map};

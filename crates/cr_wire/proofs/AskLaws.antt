@@ -1,3 +1,4 @@
+-- SPDX-License-Identifier: Apache-2.0 OR MIT
 -- What a wish asks for is what its request does, whatever the body and the number tell.
 use Rattle.std.proofs.Common.{◌≡◌, ℕ, List, Bool, true, false, Option, Some, None, option_map, Result, Ok, Err, IsTrue}
 use Rattle.std.proofs.Common.{refl, ap, subst, sym}

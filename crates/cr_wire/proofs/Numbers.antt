@@ -1,3 +1,4 @@
+-- SPDX-License-Identifier: Apache-2.0 OR MIT
 -- The numbers that a path and the field Command-Number may tell.
 use Rattle.std.proofs.Common.{◌≡◌, ℕ, ◌<◌, ◌≤◌, ◌^◌, List, [], ◌∷◌, length, Bool, true, false, ◌&&◌, ◌==◌, not}
 use Rattle.std.proofs.Common.{if◌then◌else◌, cond, Option, Some, None, Result, Ok, Err, IsTrue, refl, ap, subst, ◌∙◌}

@@ -1,3 +1,4 @@
+-- SPDX-License-Identifier: Apache-2.0 OR MIT
 -- Bytes that are no text.
 use Rattle.std.proofs.Common.{◌≡◌, ℕ, List, Bool, true, false, refl, IsUtf8}
 use Rattle.std.specs.Str.{is_utf8}

@@ -1,3 +1,4 @@
+-- SPDX-License-Identifier: Apache-2.0 OR MIT
 -- What a request wishes, by what its path, its method and its number are found to be.
 use Rattle.std.proofs.Common.{◌≡◌, ℕ, List, Option, Some, Result, refl, ap, sym, ◌∙◌}
 use Rattle.std.specs.Prelude.{option_and_then}

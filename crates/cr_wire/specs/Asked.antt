@@ -1,3 +1,4 @@
+-- SPDX-License-Identifier: Apache-2.0 OR MIT
 -- What a request wishes, by its method, its target, its number and its body: of its query string only searches and
 -- plans are told.
 use Rattle.std.specs.Prelude.{ℕ, List, Bool, true, false, IsTrue, ◌||◌, Option, Some, None}

@@ -1,3 +1,4 @@
+-- SPDX-License-Identifier: Apache-2.0 OR MIT
 -- The bounds on what is wished: a command is within the bounds on commands, a bulk within those on bulks, and the key
 -- of either within those on keys.
 use Rattle.std.specs.Prelude.{◌≡◌, Bool, true, false, Option, None}

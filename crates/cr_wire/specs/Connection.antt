@@ -1,3 +1,4 @@
+-- SPDX-License-Identifier: Apache-2.0 OR MIT
 -- What the field Connection says (RFC 9110, sections 5.6.1 and 7.6.1).
 use Rattle.std.specs.Prelude.{ℕ, List, Bool, ◌==◌, codes}
 use Rattle.std.specs.List.{list_any, slice_split}

@@ -1,3 +1,4 @@
+-- SPDX-License-Identifier: Apache-2.0 OR MIT
 -- The paper, the version, the user and the tag that a path's parameters name.
 use Rattle.std.specs.Prelude.{ℕ, ◌^◌, List, length, Bool, ◌&&◌, ◌==◌, not, nat_le, nat_lt}
 use Rattle.std.specs.Prelude.{Option, Some, None, option_and_then, if◌then◌else◌, slice_index}

@@ -1,3 +1,4 @@
+-- SPDX-License-Identifier: Apache-2.0 OR MIT
 -- What a query string asks, of a search or a plan: its pairs of a name and a value, as web forms write them
 -- (the URL Standard, section 5).
 use Rattle.std.specs.Prelude.{ℕ, List, length, Bool, ◌&&◌, nat_le, Option, Some, None, Result, Ok, Err, codes}

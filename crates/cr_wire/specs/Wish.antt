@@ -1,3 +1,4 @@
+-- SPDX-License-Identifier: Apache-2.0 OR MIT
 -- The wish of a request: what is asked for, the credentials (RFC 9110, section 11.6.2), in which form the answer is
 -- sent, the timestamp, and whether the connection closes after the answer (RFC 9112, section 9.3).
 use Rattle.std.specs.Prelude.{ℕ, List, [], ◌∷◌, Bool, true, false, ◌||◌, Option}

@@ -1,3 +1,4 @@
+-- SPDX-License-Identifier: Apache-2.0 OR MIT
 -- Wishes: what a whole text of a connection spells, request by request, and how it ends.
 use Rattle.std.specs.Prelude.{◌≡◌, ℕ, List, [], ◌∷◌, map, Bool, ◌||◌, ◌==◌}
 use Rattle.cr_http.specs.Requests.{RequestText, End, SpellsFrom}

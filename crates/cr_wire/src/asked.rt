@@ -1,3 +1,4 @@
+// SPDX-License-Identifier: Apache-2.0 OR MIT
 //! From a path, a method, a number, and a query string or a body to what is wished.
 ghost use Rattle.std.specs.Prelude.{◌≡◌, option_and_then, option_map, IfOk, IsTrue, OnErr};
 ghost use Rattle.cr_base.specs.Keys.{IsKeyOrNone};

@@ -1,3 +1,4 @@
+// SPDX-License-Identifier: Apache-2.0 OR MIT
 //! The field Connection.
 ghost use Rattle.std.specs.Prelude.{◌≡◌, ◌==◌, reverse};
 ghost use Rattle.std.specs.List.{list_any, slice_split};

@@ -1,3 +1,4 @@
+// SPDX-License-Identifier: Apache-2.0 OR MIT
 //! From a request to its wish: what it asks, by which credentials, and when.
 //!
 //! # Proved

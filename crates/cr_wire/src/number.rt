@@ -1,3 +1,4 @@
+// SPDX-License-Identifier: Apache-2.0 OR MIT
 //! The number that a client gives a command.
 ghost use Rattle.std.specs.Prelude.{◌≡◌};
 ghost use Rattle.cr_wire.specs.Number as spec;

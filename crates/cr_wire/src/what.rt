@@ -1,3 +1,4 @@
+// SPDX-License-Identifier: Apache-2.0 OR MIT
 //! What a request wishes.
 ghost use Rattle.std.specs.Prelude.{◌≡◌};
 

@@ -1,3 +1,4 @@
+-- SPDX-License-Identifier: Apache-2.0 OR MIT
 -- The words of `drill`, by clap's own definitions: first with other tests of its two numbers, which stay closed
 -- meanwhile.
 use Rattle.std.proofs.Common.{◌≡◌, ◌∙◌, [], ◌∷◌, ◌&&◌, Bool, true, false, List, Option, Some, ap, refl, subst, arith}

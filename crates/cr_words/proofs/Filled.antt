@@ -1,3 +1,4 @@
+-- SPDX-License-Identifier: Apache-2.0 OR MIT
 -- Each row that a walk over the words leaves has a value with which clap finds no fault, where each argument takes
 -- one value or is the call for help.
 use Rattle.std.proofs.Common.{◌≡◌, ◌⊎◌, subst, ℕ, zero, suc, ◌&&◌, ◌++◌, List, [], ◌∷◌, Bool, true, false, cond, Option}

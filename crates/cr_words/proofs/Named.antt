@@ -1,3 +1,4 @@
+-- SPDX-License-Identifier: Apache-2.0 OR MIT
 -- Words that the command takes name one of its jobs, whose numbers lie within their ranges.
 use Rattle.std.proofs.Common.{◌≡◌, ◌≢◌, ◌∙◌, ℕ, arith, ◌&&◌, ◌||◌, List, [], ◌∷◌, Bool, true, false, not, cond, Option}
 use Rattle.std.proofs.Common.{Some, None, is_some, inl, inr, Result, Err, IfOk, refl, sym, ap, subst, codes}

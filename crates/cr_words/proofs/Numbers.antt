@@ -1,3 +1,4 @@
+-- SPDX-License-Identifier: Apache-2.0 OR MIT
 -- A number among the words is the one that std reads, and what clap takes lies within its range.
 use Rattle.std.proofs.Common.{◌≡◌, ◌∙◌, ℕ, ◌≤◌, Bool, true, false, cond, Some, None, Result, Ok, Err, refl, ap, sym}
 use Rattle.std.proofs.Common.{arith}

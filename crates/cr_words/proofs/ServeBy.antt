@@ -1,3 +1,4 @@
+-- SPDX-License-Identifier: Apache-2.0 OR MIT
 -- `serve` with other tests of its two numbers, which stay closed while clap's definitions compute.
 use Rattle.std.proofs.Common.{◌≡◌, ◌∙◌, [], ◌∷◌, ◌&&◌, Bool, true, cond, List, Option, Some, refl, subst, arith, codes}
 use Rattle.std.specs.Option.{option_and_then}

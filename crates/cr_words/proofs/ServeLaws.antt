@@ -1,3 +1,4 @@
+-- SPDX-License-Identifier: Apache-2.0 OR MIT
 -- The words of `serve`, by clap's own definitions.
 use Rattle.std.proofs.Common.{◌≡◌, ◌∙◌, [], ◌∷◌, ◌&&◌, Bool, true, false, List, Some, None, ap, refl, codes}
 use Rattle.std.specs.List.{list_all}

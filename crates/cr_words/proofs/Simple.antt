@@ -1,3 +1,4 @@
+-- SPDX-License-Identifier: Apache-2.0 OR MIT
 -- The command is one of which clap says when it takes the words.
 use Rattle.std.proofs.Common.{◌≡◌, List, [], ◌∷◌, true, refl, inl, inr, subst}
 use Rattle.clap.specs.Words.{App, Text, is_simple_and_free, HasKind, Kinds, kind_of, fault_of, takes}

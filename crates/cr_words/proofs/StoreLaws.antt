@@ -1,3 +1,4 @@
+-- SPDX-License-Identifier: Apache-2.0 OR MIT
 -- The words of `pipe` with a store and of `view`, by clap's own definitions.
 use Rattle.std.proofs.Common.{◌≡◌, [], ◌∷◌, ◌++◌, Bool, Some, None, true, false, not, cond, ◌&&◌, ◌==◌, ap, refl}
 use Rattle.std.specs.Prelude.{codes}

@@ -1,3 +1,4 @@
+-- SPDX-License-Identifier: Apache-2.0 OR MIT
 -- A word behind an option is its value, where it doesn't begin with a hyphen.
 use Rattle.std.proofs.Common.{◌≡◌, [], ◌∷◌, ◌&&◌, ◌==◌, ◌<◌, ℕ, Bool, true, false, not, List, None, refl, subst, arith}
 use Rattle.std.specs.Prelude.{fold}

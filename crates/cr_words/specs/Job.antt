@@ -1,3 +1,4 @@
+-- SPDX-License-Identifier: Apache-2.0 OR MIT
 -- The job that the words name.
 use Rattle.std.specs.Prelude.{◌≡◌, ℕ, ◌≤◌, ⊤, List, [], true, Option, Some, None, if◌then◌else◌, codes, option_map}
 use Rattle.std.specs.Option.{option_and_then}

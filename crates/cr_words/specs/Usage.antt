@@ -1,3 +1,4 @@
+-- SPDX-License-Identifier: Apache-2.0 OR MIT
 -- What is written if the words are refused.
 use Rattle.std.specs.Prelude.{ℕ, List, codes}
 

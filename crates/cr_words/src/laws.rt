@@ -1,3 +1,4 @@
+// SPDX-License-Identifier: Apache-2.0 OR MIT
 //! Theorems over the definitions: which words are taken, and the job that each names, with no run.
 ghost use Rattle.std.specs.Prelude.{◌≡◌, [], ◌∷◌, ◌++◌, Some, None, codes, true, false, List};
 ghost use Rattle.clap.specs.Words.{Text, fault_of};

@@ -1,3 +1,4 @@
+// SPDX-License-Identifier: Apache-2.0 OR MIT
 //! The words of the command line, read by `clap`.
 //!
 //! # Proved

@@ -1,3 +1,4 @@
+// SPDX-License-Identifier: Apache-2.0 OR MIT
 //! The answer to words that are refused.
 ghost use Rattle.std.specs.Prelude.{◌≡◌};
 ghost use Rattle.cr_words.specs.Usage.{usage};

@@ -1,3 +1,4 @@
+-- SPDX-License-Identifier: Apache-2.0 OR MIT
 -- All turns, once the lock is closed.
 use Rattle.std.proofs.Common.{◌≡◌, ◌∙◌, ℕ, inl, inr, ⊎_elim, List, [], length, sym, ap, subst, arith}
 use mathlib.Core.Logic.{dite}

@@ -1,3 +1,4 @@
+-- SPDX-License-Identifier: Apache-2.0 OR MIT
 -- What a pass knows more behind turns, and behind a connection.
 use Rattle.std.proofs.Common.{◌≡◌, ◌∙◌, ℕ, List, [], ◌∷◌, ◌++◌, length, drop, Bool, Option, inl, inr, ⊎_elim, refl, sym}
 use Rattle.std.proofs.Common.{ap, subst, append_assoc}

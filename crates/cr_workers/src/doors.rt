@@ -1,3 +1,4 @@
+// SPDX-License-Identifier: Apache-2.0 OR MIT
 //! All workers: a thread for each door, where one can be made.
 ghost use Rattle.std.specs.Prelude.{◌≡◌, ◌≤◌, ◌<◌, ◌+◌, ◌-◌, ◌*◌, ◌/◌, ◌^◌};
 ghost use Rattle.std.specs.Prelude.{◌++◌, length, false, vec_capacity, IfOk, IfErr};

@@ -1,3 +1,4 @@
+// SPDX-License-Identifier: Apache-2.0 OR MIT
 //! Many connections on one history: each worker has a door that gives it connections, one after another, and a pass
 //! for its turns with the book. All claims are of `serve_book` (`ServesHistory`).
 //!

@@ -1,3 +1,4 @@
+// SPDX-License-Identifier: Apache-2.0 OR MIT
 //! How workers ended.
 ghost use Rattle.std.specs.Prelude.{◌≡◌};
 ghost use Rattle.cr_workers.specs.Doors.{joined};

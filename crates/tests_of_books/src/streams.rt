@@ -1,3 +1,4 @@
+// SPDX-License-Identifier: Apache-2.0 OR MIT
 //! What the tests of books begin with: sources and sinks.
 
 use cr_ports::{MemSink, PlainSource};

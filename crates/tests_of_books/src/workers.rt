@@ -1,3 +1,4 @@
+// SPDX-License-Identifier: Apache-2.0 OR MIT
 //! Two workers at once.
 ghost use Rattle.std.specs.Prelude.{◌≡◌, ⊤, None, Some, true, false, is_some, IfOk, if◌then◌else◌};
 

@@ -1,3 +1,4 @@
+// SPDX-License-Identifier: Apache-2.0 OR MIT
 //! One conference over a journal and over rows in memory, on the program's own shelf, and what opens once the machine
 //! stopped at each call of the journal's disk.
 use crate::images::{Torn, image_behind};

@@ -1,3 +1,4 @@
+// SPDX-License-Identifier: Apache-2.0 OR MIT
 //! What a stop may leave of a disk in memory, by the model that disks have: until a sync any bytes may stand in the
 //! range of a write, and the file may end anywhere behind its old end.
 use cr_disks::{DiskCall, MemDisk};

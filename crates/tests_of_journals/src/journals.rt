@@ -1,3 +1,4 @@
+// SPDX-License-Identifier: Apache-2.0 OR MIT
 //! The bytes of a journal, and what opens once the machine stopped.
 use crate::images::{PATTERNS, Torn, image_behind};
 use crate::rows::{phase_set, with_texts};

@@ -1,3 +1,4 @@
+// SPDX-License-Identifier: Apache-2.0 OR MIT
 //! Tests of journals over disks in memory, with ample memory: the bytes of the file, and what opens once the machine
 //! stopped at each call of the disk.
 #![tactic(auto)]

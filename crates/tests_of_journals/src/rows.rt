@@ -1,3 +1,4 @@
+// SPDX-License-Identifier: Apache-2.0 OR MIT
 //! Rows for tests.
 use cr_base::{Blob, Row};
 use std::alloc::{AllocError, Global};

@@ -1,3 +1,4 @@
+// SPDX-License-Identifier: Apache-2.0 OR MIT
 //! Journals by their paths.
 use crate::rows::phase_set;
 use cr_disks::{Disk, Disks, MemDisks};

@@ -1,3 +1,4 @@
+// SPDX-License-Identifier: Apache-2.0 OR MIT
 //! Tests of ports, locks and sockets: each call that may run out of memory, once with ample memory; what adapters do
 //! over streams that fail; 64 threads on one history.
 //!

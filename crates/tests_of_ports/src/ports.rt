@@ -1,3 +1,4 @@
+// SPDX-License-Identifier: Apache-2.0 OR MIT
 //! Sources, sinks, clocks, keepers and shelves in memory, and the adapters over streams and over the system's clock,
 //! through their bounds.
 

@@ -1,3 +1,4 @@
+// SPDX-License-Identifier: Apache-2.0 OR MIT
 //! Gates over TCP: an opening at a port that the system chooses, and one that is refused.
 
 use cr_net::{Reason, TcpGates};

@@ -1,3 +1,4 @@
+// SPDX-License-Identifier: Apache-2.0 OR MIT
 //! Stores of the versions 1 and 2, whose rows have no numbers of commands, and in version 1 no moments.
 ghost use Rattle.std.specs.Prelude.{IsTrue, IfSome};
 

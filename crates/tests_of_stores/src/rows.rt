@@ -1,3 +1,4 @@
+// SPDX-License-Identifier: Apache-2.0 OR MIT
 //! Rows that are kept and looked for.
 
 use cr_base::{Blob, LAST_COMMAND_NUMBER, Row};

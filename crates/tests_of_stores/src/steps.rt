@@ -1,3 +1,4 @@
+// SPDX-License-Identifier: Apache-2.0 OR MIT
 //! What is done with a store: over any disk, with plain values for answers.
 ghost use Rattle.std.specs.Prelude.{◌≡◌, IsTrue, IfSome, None};
 

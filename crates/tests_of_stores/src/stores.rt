@@ -1,3 +1,4 @@
+// SPDX-License-Identifier: Apache-2.0 OR MIT
 //! What no clause says: that rows come back as they were from a store that was closed, and what a
 //! reason's text is. `checks/store.py` tries bad stores, on real files.
 ghost use Rattle.std.specs.Prelude.{IsTrue};

@@ -1,3 +1,4 @@
+-- SPDX-License-Identifier: Apache-2.0 OR MIT
 use Rattle.cr_bounds.proofs.BoundsWalk.{entries-shown, marks-shown, moments-shown, keys-shown, papers-shown}
 use Rattle.cr_bounds.proofs.BoundsWalk.{users-shown, names-shown, digests-shown, roles-shown, phases-shown}
 use Rattle.cr_bounds.proofs.BoundsWalk.{deadlines-shown, modes-shown, makers-shown, titles-shown, abstracts-shown}

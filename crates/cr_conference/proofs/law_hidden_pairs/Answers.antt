@@ -1,3 +1,4 @@
+-- SPDX-License-Identifier: Apache-2.0 OR MIT
 use Rattle.cr_conference.proofs.HiddenPairProofs.{digest-hidden, namer-hidden, mode_setter-hidden}
 use Rattle.cr_conference.proofs.HiddenPairProofs.{phase_setter-hidden}
 use Rattle.cr_conference.proofs.HiddenPairProofs.{deadline_setter-hidden, moment-hidden, key-hidden, title-hidden}

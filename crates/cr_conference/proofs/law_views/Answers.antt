@@ -1,3 +1,4 @@
+-- SPDX-License-Identifier: Apache-2.0 OR MIT
 use Rattle.cr_conference.proofs.ConferenceProofs.{conference-legal}
 use Rattle.cr_conference.proofs.ConferenceSeen.{views-before, views-bidding, views-reviewing, views-discussion}
 use Rattle.cr_conference.proofs.ConferenceSeen.{views-notification, views-close, views-reversed, views-response}

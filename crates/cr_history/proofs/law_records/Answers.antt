@@ -1,3 +1,4 @@
+-- SPDX-License-Identifier: Apache-2.0 OR MIT
 use Rattle.cr_history.proofs.RecordLaws.{records-few, records-declared-few}
 use Rattle.cr_history.proofs.law_records.Goals as goal
 

@@ -1,3 +1,4 @@
+-- SPDX-License-Identifier: Apache-2.0 OR MIT
 use Rattle.cr_laws.proofs.GroupRunsLaws.{two_runs_of_group, each_hears_alike}
 use Rattle.cr_laws.proofs.law_group_runs.Goals as goal
 

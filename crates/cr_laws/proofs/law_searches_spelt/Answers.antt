@@ -1,3 +1,4 @@
+-- SPDX-License-Identifier: Apache-2.0 OR MIT
 use Rattle.cr_laws.proofs.SearchesSpeltLaws.{reads-as_spelt, wishes-as_spelt}
 use Rattle.cr_laws.proofs.law_searches_spelt.Goals as goal
 

@@ -1,3 +1,4 @@
+-- SPDX-License-Identifier: Apache-2.0 OR MIT
 use Rattle.cr_laws.proofs.UndeducibleBytesLaws.{others_heard, shorter_heard}
 use Rattle.cr_laws.proofs.law_undeducible_bytes.Goals as goal
 

@@ -1,3 +1,4 @@
+-- SPDX-License-Identifier: Apache-2.0 OR MIT
 use Rattle.cr_permissions.proofs.SingleRowLaws.{bulk_is_its_rows}
 use Rattle.cr_permissions.proofs.law_bulk.Goals as goal
 

@@ -1,3 +1,4 @@
+-- SPDX-License-Identifier: Apache-2.0 OR MIT
 use Rattle.cr_permissions.proofs.GoesOnLaws.{goes_on}
 use Rattle.cr_permissions.proofs.law_goes_on.Goals as goal
 

@@ -1,3 +1,4 @@
+-- SPDX-License-Identifier: Apache-2.0 OR MIT
 use Rattle.cr_policy.proofs.AddedLaws.{adds_as_said}
 use Rattle.cr_permissions.proofs.MayBulkLaws.{rows_as_said, bulks_as_said}
 use Rattle.cr_permissions.proofs.MayDoLaws.{permissions_as_said}

@@ -1,3 +1,4 @@
+-- SPDX-License-Identifier: Apache-2.0 OR MIT
 use Rattle.cr_policy.proofs.LegalLaws.{Legal-kept, digests-own}
 use Rattle.cr_policy.proofs.law_legal.Goals as goal
 

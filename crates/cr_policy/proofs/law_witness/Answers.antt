@@ -1,3 +1,4 @@
+-- SPDX-License-Identifier: Apache-2.0 OR MIT
 use Rattle.cr_policy.proofs.WitnessLaws.{two_registrations-legal, digests-hidden, one_submission-legal}
 use Rattle.cr_policy.proofs.WitnessLaws.{one_conflict-legal, one_bulk-legal}
 use Rattle.cr_policy.proofs.law_witness.Goals as goal

@@ -1,3 +1,4 @@
+-- SPDX-License-Identifier: Apache-2.0 OR MIT
 use Rattle.cr_process.proofs.run_over.Goals as goal
 
 pub returns : goal.returns

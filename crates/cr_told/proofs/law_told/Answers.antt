@@ -1,3 +1,4 @@
+-- SPDX-License-Identifier: Apache-2.0 OR MIT
 use Rattle.cr_told.proofs.ToldLists.{page_lists_told, contents_told, comments_told, responses_told, accepted_told}
 use Rattle.cr_told.proofs.ToldLists.{me_told}
 use Rattle.cr_told.proofs.ToldPages.{pages_told}

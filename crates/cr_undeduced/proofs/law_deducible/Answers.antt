@@ -1,3 +1,4 @@
+-- SPDX-License-Identifier: Apache-2.0 OR MIT
 use Rattle.cr_undeduced.proofs.DeducedChair.{one_chair_acts}
 use Rattle.cr_undeduced.proofs.DeducedNumbers.{versions_tell, form_numbers_tell, comment_numbers_tell, labels_tell}
 use Rattle.cr_undeduced.proofs.law_deducible.Goals as goal

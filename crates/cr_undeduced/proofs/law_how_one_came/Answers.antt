@@ -1,3 +1,4 @@
+-- SPDX-License-Identifier: Apache-2.0 OR MIT
 use Rattle.cr_undeduced.proofs.CameLaws.{members_came, authors_came, reviewers_came, externals_came, conflicts_came}
 use Rattle.cr_undeduced.proofs.CameLaws.{accepted_came}
 use Rattle.cr_undeduced.proofs.CameReaders.{form_readers_came}

@@ -1,3 +1,4 @@
+-- SPDX-License-Identifier: Apache-2.0 OR MIT
 use Rattle.cr_undeduced.proofs.MakersLegal.{other_makers_legal}
 use Rattle.cr_undeduced.proofs.MakersViews.{other_makers_unseen}
 use Rattle.cr_undeduced.proofs.law_makers.Goals as goal

@@ -1,3 +1,4 @@
+-- SPDX-License-Identifier: Apache-2.0 OR MIT
 use Rattle.cr_undeduced.proofs.BesidesLegal.{inserted, left_out}
 use Rattle.cr_undeduced.proofs.BesidesViews.{besides_unseen}
 use Rattle.cr_undeduced.proofs.law_may_have_been.Goals as goal

@@ -1,3 +1,4 @@
+-- SPDX-License-Identifier: Apache-2.0 OR MIT
 use Rattle.cr_undeduced.proofs.TwinLegal.{twins_legal}
 use Rattle.cr_undeduced.proofs.TwinUnnamed.{twins_unnamed}
 use Rattle.cr_undeduced.proofs.TwinViews.{twins_unseen}

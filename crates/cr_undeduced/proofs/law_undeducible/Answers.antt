@@ -1,3 +1,4 @@
+-- SPDX-License-Identifier: Apache-2.0 OR MIT
 use Rattle.cr_undeduced.proofs.LooksLaws.{looks_alike, group_alike}
 use Rattle.cr_undeduced.proofs.UndeducibleLaws.{others_legal, shorter_legal}
 use Rattle.cr_undeduced.proofs.law_undeducible.Goals as goal

@@ -1,3 +1,4 @@
+-- SPDX-License-Identifier: Apache-2.0 OR MIT
 use Rattle.std.proofs.Common.{List, Bool, subst, sym}
 use Rattle.conformance.proofs.store.opened_rows.Goals as goal
 

@@ -1,3 +1,4 @@
+-- SPDX-License-Identifier: Apache-2.0 OR MIT
 use Rattle.std.proofs.Common.{◌≡◌}
 use Rattle.conformance.proofs.store.rows_of.Given as goal
 

@@ -1,3 +1,4 @@
+-- SPDX-License-Identifier: Apache-2.0 OR MIT
 use Rattle.std.proofs.Common.{sym, ◌∙◌, arith}
 use Rattle.cr_base.proofs.ParseLaws.{high, low, parts}
 use Rattle.cr_base.proofs.parse.parse_paper.Goals as goal

@@ -1,3 +1,4 @@
+-- SPDX-License-Identifier: Apache-2.0 OR MIT
 use Rattle.std.proofs.lemmas.Str.{is_utf8-from_IsUtf8}
 use Rattle.cr_bodies.proofs.Texts.{bad_json}
 use Rattle.cr_bodies.proofs.body.read_json.Goals as goal

@@ -1,3 +1,4 @@
+-- SPDX-License-Identifier: Apache-2.0 OR MIT
 use Rattle.std.proofs.Common.{sym}
 use Rattle.cr_bodies.proofs.Texts.{none_at}
 use Rattle.cr_bodies.proofs.bytes.index_of.Goals as goal

@@ -1,3 +1,4 @@
+-- SPDX-License-Identifier: Apache-2.0 OR MIT
 use Rattle.std.proofs.Common.{◌≡◌, length}
 use Rattle.cr_bodies.specs.Credentials.{after_spaces}
 use Rattle.cr_bodies.proofs.credentials.without_spaces.Given as goal

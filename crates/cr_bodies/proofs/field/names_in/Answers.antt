@@ -1,3 +1,4 @@
+-- SPDX-License-Identifier: Apache-2.0 OR MIT
 use Rattle.std.proofs.Common.{arith}
 use Rattle.cr_bodies.proofs.Names.{too_many}
 use Rattle.cr_bodies.proofs.field.names_in.Goals as goal

@@ -1,3 +1,4 @@
+-- SPDX-License-Identifier: Apache-2.0 OR MIT
 use Rattle.std.proofs.Common.{w32, of_z, ap, sym, ◌∙◌}
 use Rattle.cr_bodies.proofs.Instants.{none-left, whole-seconds, low-seconds, with-fraction, of-seconds, before-1970}
 use Rattle.cr_bodies.proofs.until.deadline_at.Goals as goal

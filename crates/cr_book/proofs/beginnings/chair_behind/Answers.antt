@@ -1,3 +1,4 @@
+-- SPDX-License-Identifier: Apache-2.0 OR MIT
 use Rattle.cr_book.proofs.DueLaws.{taken-when}
 use Rattle.cr_book.proofs.beginnings.chair_behind.Goals as goal
 

@@ -1,3 +1,4 @@
+-- SPDX-License-Identifier: Apache-2.0 OR MIT
 use Rattle.std.proofs.Common.{[], drop, subst, sym}
 use Rattle.cr_base.specs.History.{History}
 use Rattle.cr_beginnings.specs.Beginnings.{InTurn}

@@ -1,3 +1,4 @@
+-- SPDX-License-Identifier: Apache-2.0 OR MIT
 use Rattle.std.proofs.Common.{◌∙◌, ap, arith, length, sym}
 use Rattle.std.proofs.lemmas.Bool.{true≢false}
 use Rattle.cr_book.proofs.DueLaws.{lone-other, next-follows, rows-other, taken-chair, taken-coauthor, taken-row}

@@ -1,3 +1,4 @@
+-- SPDX-License-Identifier: Apache-2.0 OR MIT
 use Rattle.cr_book.proofs.DueLaws.{coauthor-none}
 use Rattle.cr_book.proofs.beginnings.is_coauthor.Goals as goal
 

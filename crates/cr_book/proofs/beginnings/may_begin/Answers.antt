@@ -1,3 +1,4 @@
+-- SPDX-License-Identifier: Apache-2.0 OR MIT
 use Rattle.std.proofs.Common.{ℕ, ◌∙◌, Option, ap, sym}
 use Rattle.cr_beginnings.specs.Beginnings.{is_known, may_have_key}
 use Rattle.cr_book.proofs.DueLaws.{may-not}

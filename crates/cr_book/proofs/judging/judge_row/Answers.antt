@@ -1,3 +1,4 @@
+-- SPDX-License-Identifier: Apache-2.0 OR MIT
 use Rattle.std.proofs.Common.{◌∙◌, ap}
 use Rattle.cr_base.specs.Bulk.{command_of_row}
 use Rattle.cr_judge.specs.Rows.{group_or_rule}

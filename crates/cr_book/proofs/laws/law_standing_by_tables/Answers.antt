@@ -1,3 +1,4 @@
+-- SPDX-License-Identifier: Apache-2.0 OR MIT
 use Rattle.std.proofs.Common.{sym}
 use Rattle.cr_policy.proofs.LegalLaws.{Legal-fits}
 use Rattle.cr_history.proofs.TableAgreement.{standing_of-tables}

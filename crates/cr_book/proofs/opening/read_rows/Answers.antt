@@ -1,3 +1,4 @@
+-- SPDX-License-Identifier: Apache-2.0 OR MIT
 use Rattle.std.proofs.Common.{◌++◌, ◌∙◌, refl, arith, Ok}
 use Rattle.cr_base.specs.Rows.{rows_of}
 use Rattle.cr_book.proofs.StoreLaws.{untold-explains, untold-counted, answered-steady, read-more, all-read, bad-row}

@@ -1,3 +1,4 @@
+-- SPDX-License-Identifier: Apache-2.0 OR MIT
 use Rattle.std.proofs.Common.{◌≡◌, ◌++◌, take, IfSome, IsTrue}
 use Rattle.cr_base.specs.Rows.{rows_of}
 use Rattle.cr_book.proofs.opening.read_rows.Given as goal

@@ -1,3 +1,4 @@
+-- SPDX-License-Identifier: Apache-2.0 OR MIT
 use Rattle.std.proofs.Common.{◌≡◌, take}
 use Rattle.cr_book.proofs.rows.copies_of.Given as goal
 

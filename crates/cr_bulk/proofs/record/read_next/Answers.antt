@@ -1,3 +1,4 @@
+-- SPDX-License-Identifier: Apache-2.0 OR MIT
 use Rattle.csv.specs.Records.{fields_of}
 use Rattle.cr_bulk.proofs.ReadLaws.{finds}
 use Rattle.cr_bulk.proofs.record.read_next.Goals as goal

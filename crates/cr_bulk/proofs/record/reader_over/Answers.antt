@@ -1,3 +1,4 @@
+-- SPDX-License-Identifier: Apache-2.0 OR MIT
 use Rattle.cr_bulk.proofs.ReadLaws.{begun}
 use Rattle.cr_bulk.proofs.record.reader_over.Goals as goal
 

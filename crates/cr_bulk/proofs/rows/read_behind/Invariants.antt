@@ -1,3 +1,4 @@
+-- SPDX-License-Identifier: Apache-2.0 OR MIT
 use Rattle.std.proofs.Common.{◌≡◌, ◌≤◌, ◌-◌, length}
 use Rattle.cr_bulk.specs.Reading.{IsReading, left_of}
 use Rattle.cr_bulk.specs.Rows.{rows_told}

@@ -1,3 +1,4 @@
+-- SPDX-License-Identifier: Apache-2.0 OR MIT
 use Rattle.std.proofs.Common.{true, ◌∷◌, [], sym}
 use Rattle.std.specs.Prelude.{not}
 use Rattle.cr_base.specs.declared.reply.Rule.TheVariants as rules

@@ -1,3 +1,4 @@
+-- SPDX-License-Identifier: Apache-2.0 OR MIT
 use Rattle.std.proofs.Common.{◌∙◌, ◌≡◌, ◌+◌, ◌-◌, ◌++◌, List, ℕ, length, take, drop, ap, arith}
 use Rattle.std.proofs.lemmas.List.{drop-drop}
 use Rattle.cr_disks.proofs.mem_disk.overwrite.Goals as goal

@@ -1,3 +1,4 @@
+-- SPDX-License-Identifier: Apache-2.0 OR MIT
 use Rattle.std.proofs.Common.{◌≡◌, ◌-◌, ap, arith, length, min}
 use Rattle.cr_disks.proofs.Putting.{put_parts}
 use Rattle.cr_disks.proofs.mem_disk.put_over.Goals as goal

@@ -1,3 +1,4 @@
+-- SPDX-License-Identifier: Apache-2.0 OR MIT
 use Rattle.cr_drill.proofs.DrillText.{views-next}
 use Rattle.cr_drill.proofs.drill_summary.append_view_counts.Goals as goal
 

@@ -1,3 +1,4 @@
+-- SPDX-License-Identifier: Apache-2.0 OR MIT
 use Rattle.std.proofs.Common.{◌≡◌, ◌++◌, take}
 use Rattle.cr_drill.specs.Drill.{views_text}
 use Rattle.cr_drill.proofs.drill_summary.append_view_counts.Given as goal

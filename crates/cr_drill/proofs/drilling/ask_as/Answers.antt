@@ -1,3 +1,4 @@
+-- SPDX-License-Identifier: Apache-2.0 OR MIT
 use Rattle.cr_drill.proofs.DrillCast.{cast_kept}
 use Rattle.cr_drill.proofs.drilling.ask_as.Goals as goal
 

@@ -1,3 +1,4 @@
+-- SPDX-License-Identifier: Apache-2.0 OR MIT
 use Rattle.std.proofs.Common.{◌∙◌, sym}
 use Rattle.cr_drill.proofs.DrillConference.{conference-told}
 use Rattle.cr_drill.proofs.drilling.conference.Goals as goal

@@ -1,3 +1,4 @@
+-- SPDX-License-Identifier: Apache-2.0 OR MIT
 use Rattle.std.proofs.Common.{◌≡◌, take}
 use Rattle.cr_drill.specs.Drill.{moved_through}
 use Rattle.cr_drill.specs.Drilling.{HasCast}

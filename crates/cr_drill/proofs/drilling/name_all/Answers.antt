@@ -1,3 +1,4 @@
+-- SPDX-License-Identifier: Apache-2.0 OR MIT
 use Rattle.cr_drill.proofs.DrillCast.{members-next}
 use Rattle.cr_drill.proofs.drilling.name_all.Goals as goal
 

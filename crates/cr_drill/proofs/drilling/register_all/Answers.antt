@@ -1,3 +1,4 @@
+-- SPDX-License-Identifier: Apache-2.0 OR MIT
 use Rattle.std.proofs.Common.{◌≡◌, ◌∙◌, ap, arith}
 use Rattle.cr_drill.specs.Cast.{cast_digest}
 use Rattle.cr_drill.specs.Drill.{registered_first}

@@ -1,3 +1,4 @@
+-- SPDX-License-Identifier: Apache-2.0 OR MIT
 use Rattle.std.proofs.Common.{◌≡◌}
 use Rattle.cr_policy.specs.Legal.{Legal}
 use Rattle.cr_drill.specs.Cast.{cast_digest}

@@ -1,3 +1,4 @@
+-- SPDX-License-Identifier: Apache-2.0 OR MIT
 use Rattle.std.proofs.Common.{◌∙◌, Some}
 use Rattle.cr_base.specs.declared.command.Command.TheVariants.{SetPhase}
 use Rattle.cr_policy.specs.Legal.{step}

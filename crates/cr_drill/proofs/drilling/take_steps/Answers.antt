@@ -1,3 +1,4 @@
+-- SPDX-License-Identifier: Apache-2.0 OR MIT
 use Rattle.std.proofs.Common.{◌∙◌, arith}
 use Rattle.cr_drill.specs.Drill.{Drilled}
 use Rattle.cr_drill.specs.Drilling.{drilled_of}

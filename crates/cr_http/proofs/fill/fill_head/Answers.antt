@@ -1,3 +1,4 @@
+-- SPDX-License-Identifier: Apache-2.0 OR MIT
 use Rattle.std.proofs.Common.{◌≡◌, ◌∙◌, None, arith}
 use Rattle.cr_http.specs.Buffer.{text_of}
 use Rattle.cr_http.specs.Filling.{NeedsHead}

@@ -1,3 +1,4 @@
+-- SPDX-License-Identifier: Apache-2.0 OR MIT
 use Rattle.std.proofs.Common.{◌∙◌, arith}
 use Rattle.cr_http.proofs.Moving.{moves_on, reads_below}
 use Rattle.cr_http.proofs.fill.fill_room.Goals as goal

@@ -1,3 +1,4 @@
+-- SPDX-License-Identifier: Apache-2.0 OR MIT
 use Rattle.std.proofs.Common.{arith, refl}
 use Rattle.cr_http.specs.declared.fill_body.BodyFill.TheVariants as fills
 use Rattle.cr_http.proofs.Bodies.{fills_short, fills_whole, keeps_within, put_back_within}

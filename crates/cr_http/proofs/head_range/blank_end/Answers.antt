@@ -1,3 +1,4 @@
+-- SPDX-License-Identifier: Apache-2.0 OR MIT
 use Rattle.std.proofs.lemmas.List.{take_rest}
 use Rattle.cr_http.proofs.Searching.{skips_blank, stops_blank}
 use Rattle.cr_http.proofs.head_range.blank_end.Goals as goal

@@ -1,3 +1,4 @@
+-- SPDX-License-Identifier: Apache-2.0 OR MIT
 use Rattle.std.proofs.Common.{◌≡◌, ◌≤◌, length, ◌-◌, drop}
 use Rattle.cr_http.specs.HeadRange.{blank_end_from}
 use Rattle.cr_http.proofs.head_range.blank_end.Given as goal

@@ -1,3 +1,4 @@
+-- SPDX-License-Identifier: Apache-2.0 OR MIT
 use Rattle.std.proofs.lemmas.List.{take_rest}
 use Rattle.cr_http.proofs.Searching.{ends, waits_at_lf, waits_at_end}
 use Rattle.cr_http.proofs.head_range.look_in_head.Goals as goal

@@ -1,3 +1,4 @@
+-- SPDX-License-Identifier: Apache-2.0 OR MIT
 use Rattle.std.proofs.Common.{length, ◌-◌}
 use Rattle.cr_http.specs.Search.{FindsSame}
 use Rattle.cr_http.specs.declared.head_range.Search.TheVariants as searches

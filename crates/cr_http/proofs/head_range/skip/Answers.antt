@@ -1,3 +1,4 @@
+-- SPDX-License-Identifier: Apache-2.0 OR MIT
 use Rattle.std.proofs.lemmas.List.{take_rest}
 use Rattle.cr_http.specs.declared.head_range.Search.TheVariants as searches
 use Rattle.cr_http.proofs.Searching.{skips, begins, looks_on, waits}

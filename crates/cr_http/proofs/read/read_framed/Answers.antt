@@ -1,3 +1,4 @@
+-- SPDX-License-Identifier: Apache-2.0 OR MIT
 use Rattle.std.proofs.Common.{arith, refl, inr}
 use Rattle.cr_http.proofs.Answering.{reads_none}
 use Rattle.cr_http.proofs.HeadsRead.{to_head_framed}

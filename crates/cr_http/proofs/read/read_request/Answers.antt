@@ -1,3 +1,4 @@
+-- SPDX-License-Identifier: Apache-2.0 OR MIT
 use Rattle.std.proofs.Common.{rules, ◌≡◌, subst}
 use Rattle.cr_http.specs.Buffer.{text_of}
 use Rattle.cr_http.specs.Reading.{IsSettled}

@@ -1,3 +1,4 @@
+-- SPDX-License-Identifier: Apache-2.0 OR MIT
 use Rattle.std.proofs.Common.{◌∙◌, ◌∷◌, [], inr, Bool, ap, map, sym}
 use Rattle.cr_journal.specs.Gates.{IsKeptOrOneMore}
 use Rattle.cr_journal.specs.Grammar.{payload}

@@ -1,3 +1,4 @@
+-- SPDX-License-Identifier: Apache-2.0 OR MIT
 use Rattle.std.proofs.Common.{◌∙◌, ◌∷◌, [], Bool, ap, map, refl}
 use Rattle.cr_journal.specs.Gates.{IsKeptOrOneMore}
 use Rattle.cr_journal.specs.Grammar.{payload}

@@ -1,3 +1,4 @@
+-- SPDX-License-Identifier: Apache-2.0 OR MIT
 use Rattle.std.proofs.Common.{◌∙◌, ◌+◌, ◌≤◌, List, ℕ, arith, drop, length, refl, subst}
 use Rattle.cr_ports.specs.Count.{Rises}
 use Rattle.cr_ports.specs.declared.source.ReadStep.TheVariants as reads

@@ -1,3 +1,4 @@
+-- SPDX-License-Identifier: Apache-2.0 OR MIT
 use Rattle.std.proofs.Common.{◌≡◌, ◌≤◌, ◌-◌, ℕ, List, length, take, drop}
 use Rattle.std.specs.Prelude.{IsTrue}
 use Rattle.cr_journal.proofs.opening.fill.Given as goal

@@ -1,3 +1,4 @@
+-- SPDX-License-Identifier: Apache-2.0 OR MIT
 use Rattle.cr_journal.proofs.OpenLaws.{new_found}
 use Rattle.cr_journal.proofs.opening.open_or_make.Goals as goal
 

@@ -1,3 +1,4 @@
+-- SPDX-License-Identifier: Apache-2.0 OR MIT
 use Rattle.std.proofs.Common.{◌+◌, ◌<◌, arith}
 use Rattle.cr_journal.proofs.Gating.{no_length, open_there, too_long}
 use Rattle.cr_journal.proofs.opening.payload_in.Goals as goal

@@ -1,3 +1,4 @@
+-- SPDX-License-Identifier: Apache-2.0 OR MIT
 use Rattle.std.proofs.Common.{◌≡◌, ◌≤◌, ◌-◌, ◌++◌, ℕ, List}
 use Rattle.std.specs.Prelude.{IsTrue}
 use Rattle.cr_base.specs.declared.row.Row.{Row}

@@ -1,3 +1,4 @@
+-- SPDX-License-Identifier: Apache-2.0 OR MIT
 use Rattle.std.proofs.Common.{arith}
 use Rattle.cr_journal.specs.Reading.{row_of}
 use Rattle.cr_journal.proofs.RowLaws.{found_of, none_of}

@@ -1,3 +1,4 @@
+-- SPDX-License-Identifier: Apache-2.0 OR MIT
 use Rattle.std.proofs.Common.{ℕ, ◌<◌, List, length, ⊎_elim, arith, subst, sym}
 use Rattle.cr_journal.specs.Gates.{SameBut}
 use Rattle.cr_journal.proofs.Bytes.{but_after, holds_but, torn_but}

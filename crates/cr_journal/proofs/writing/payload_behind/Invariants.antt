@@ -1,3 +1,4 @@
+-- SPDX-License-Identifier: Apache-2.0 OR MIT
 use Rattle.std.proofs.Common.{◌≡◌, ◌++◌, [], ◌∷◌, take}
 use Rattle.cr_journal.specs.Grammar.{FitsGroup, payload}
 use Rattle.cr_journal.proofs.writing.payload_behind.Given as goal

@@ -1,3 +1,4 @@
+-- SPDX-License-Identifier: Apache-2.0 OR MIT
 use Rattle.std.proofs.Common.{◌∙◌, ◌++◌, List, ℕ, ap, drop, sym, length-drop}
 use Rattle.std.specs.Int.{w64, to_be_bytes}
 use Rattle.cr_journal.specs.Grammar.{number}

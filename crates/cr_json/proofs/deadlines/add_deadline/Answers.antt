@@ -1,3 +1,4 @@
+-- SPDX-License-Identifier: Apache-2.0 OR MIT
 use Rattle.cr_json.specs.Deadlines.{deadline_members}
 use Rattle.cr_json.proofs.Objects.{◌then◌}
 use Rattle.cr_json.proofs.deadlines.add_deadline.Goals as goal

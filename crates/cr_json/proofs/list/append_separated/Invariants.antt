@@ -1,3 +1,4 @@
+-- SPDX-License-Identifier: Apache-2.0 OR MIT
 use Rattle.cr_json.proofs.Lists.{Listed}
 use Rattle.cr_json.proofs.list.append_separated.Given as goal
 

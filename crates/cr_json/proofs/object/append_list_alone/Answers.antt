@@ -1,3 +1,4 @@
+-- SPDX-License-Identifier: Apache-2.0 OR MIT
 use Rattle.cr_json.specs.Json.{list_alone}
 use Rattle.cr_json.proofs.Objects.{closed}
 use Rattle.cr_json.proofs.object.append_list_alone.Goals as goal

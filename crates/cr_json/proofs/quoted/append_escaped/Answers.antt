@@ -1,3 +1,4 @@
+-- SPDX-License-Identifier: Apache-2.0 OR MIT
 use Rattle.std.proofs.Common.{arith}
 use Rattle.json.specs.Print.{escape_byte}
 use Rattle.cr_json.proofs.Lists.{written_range}

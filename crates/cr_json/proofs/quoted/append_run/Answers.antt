@@ -1,3 +1,4 @@
+-- SPDX-License-Identifier: Apache-2.0 OR MIT
 use Rattle.std.proofs.Common.{◌≡◌, ◌∙◌, ◌++◌, get_or, arith, ap, sym, append_assoc}
 use Rattle.std.specs.List.{slice_range}
 use Rattle.json.specs.Print.{escape_byte}

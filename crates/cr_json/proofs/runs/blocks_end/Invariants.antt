@@ -1,3 +1,4 @@
+-- SPDX-License-Identifier: Apache-2.0 OR MIT
 use Rattle.std.proofs.Common.{◌-◌, ◌≤◌, length}
 use Rattle.json.specs.Written.{PlainBetween}
 use Rattle.cr_json.proofs.runs.blocks_end.Given as goal

@@ -1,3 +1,4 @@
+-- SPDX-License-Identifier: Apache-2.0 OR MIT
 use Rattle.std.proofs.Common.{arith}
 use Rattle.json.proofs.Printed.Plain.{plain_from_lanes}
 use Rattle.cr_json.proofs.runs.is_plain_block.Goals as goal

@@ -1,3 +1,4 @@
+-- SPDX-License-Identifier: Apache-2.0 OR MIT
 use Rattle.cr_json.proofs.Plain.{escape_range}
 use Rattle.cr_json.proofs.runs.run_end.Goals as goal
 

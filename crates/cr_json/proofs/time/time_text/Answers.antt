@@ -1,3 +1,4 @@
+-- SPDX-License-Identifier: Apache-2.0 OR MIT
 use Rattle.std.proofs.Common.{ap, ◌∙◌}
 use Rattle.cr_json.specs.Times.{civil_text, time_text as text_at}
 use Rattle.cr_json.proofs.time.time_text.Goals as goal

@@ -1,3 +1,4 @@
+-- SPDX-License-Identifier: Apache-2.0 OR MIT
 use Rattle.std.proofs.Common.{◌∙◌, ap, refl, sym}
 use Rattle.cr_base.specs.Lists.{at_some}
 use Rattle.cr_base.specs.Reviews.{is_written_in}

@@ -1,3 +1,4 @@
+-- SPDX-License-Identifier: Apache-2.0 OR MIT
 use Rattle.std.proofs.Common.{◌≡◌, ◌≤◌, ◌∷◌, ◌++◌, [], drop, length}
 use Rattle.std.specs.List.{list_all}
 use Rattle.cr_base.specs.Accounts.{lines_of}

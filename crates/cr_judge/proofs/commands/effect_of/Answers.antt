@@ -1,3 +1,4 @@
+-- SPDX-License-Identifier: Apache-2.0 OR MIT
 use Rattle.cr_judge.proofs.JudgedLaws.{call-told, registration-told}
 use Rattle.cr_judge.proofs.commands.effect_of.Goals as goal
 

@@ -1,3 +1,4 @@
+-- SPDX-License-Identifier: Apache-2.0 OR MIT
 use Rattle.cr_judge.proofs.JudgedLaws.{effect-fits}
 use Rattle.cr_judge.proofs.commands.judge.Goals as goal
 

@@ -1,3 +1,4 @@
+-- SPDX-License-Identifier: Apache-2.0 OR MIT
 use Rattle.cr_judge.proofs.CommandLaws.{registration-drawn, registration-refused}
 use Rattle.cr_judge.proofs.JudgedLaws.{passed-up}
 use Rattle.cr_judge.proofs.commands.registration.Goals as goal

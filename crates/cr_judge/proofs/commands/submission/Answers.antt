@@ -1,3 +1,4 @@
+-- SPDX-License-Identifier: Apache-2.0 OR MIT
 use Rattle.std.proofs.Common.{Bool, Some, ◌+◌, ◌∙◌, ap}
 use Rattle.std.specs.Prelude.{not}
 use Rattle.cr_base.specs.declared.entry.Stamp.{Stamp}

@@ -1,3 +1,4 @@
+-- SPDX-License-Identifier: Apache-2.0 OR MIT
 use Rattle.std.proofs.Common.{ℕ, Bool, Option, Some, Ok, Err, ◌∙◌, ap, length, sym, refl}
 use Rattle.std.specs.Prelude.{unwrap_or}
 use Rattle.cr_base.specs.Drawn.{alone}

@@ -1,3 +1,4 @@
+-- SPDX-License-Identifier: Apache-2.0 OR MIT
 use Rattle.cr_judge.proofs.TargetLaws.{name-dismissed, name-for}
 use Rattle.cr_judge.proofs.effect.name_for.Goals as goal
 

@@ -1,3 +1,4 @@
+-- SPDX-License-Identifier: Apache-2.0 OR MIT
 use Rattle.cr_base.specs.Tables.{tables_from}
 use Rattle.cr_view.proofs.NobodyLaws.{nobody-conflicted}
 use Rattle.cr_judge.proofs.RowLaws.{conflicted-behind}

@@ -1,3 +1,4 @@
+-- SPDX-License-Identifier: Apache-2.0 OR MIT
 use Rattle.cr_base.specs.Tables.{tables_from}
 use Rattle.cr_base.specs.Words.{is_member}
 use Rattle.cr_judge.proofs.RowLaws.{invited-behind, nobody-invited}

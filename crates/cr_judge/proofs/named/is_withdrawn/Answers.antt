@@ -1,3 +1,4 @@
+-- SPDX-License-Identifier: Apache-2.0 OR MIT
 use Rattle.std.proofs.Common.{◌∙◌, ap, sym}
 use Rattle.cr_base.specs.Lists.{at_some}
 use Rattle.cr_base.specs.Papers.{PapersState, is_withdrawn_at}

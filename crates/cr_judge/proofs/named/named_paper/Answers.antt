@@ -1,3 +1,4 @@
+-- SPDX-License-Identifier: Apache-2.0 OR MIT
 use Rattle.cr_judge.proofs.RowLaws.{named-behind}
 use Rattle.cr_judge.proofs.named.named_paper.Goals as goal
 

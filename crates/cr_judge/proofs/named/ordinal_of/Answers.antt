@@ -1,3 +1,4 @@
+-- SPDX-License-Identifier: Apache-2.0 OR MIT
 use Rattle.cr_base.specs.Tables.{tables_from}
 use Rattle.cr_judge.proofs.RowLaws.{nobody-ordinal, ordinal-behind, seats-fit}
 use Rattle.cr_judge.proofs.named.ordinal_of.Goals as goal

@@ -1,3 +1,4 @@
+-- SPDX-License-Identifier: Apache-2.0 OR MIT
 use Rattle.std.proofs.Common.{Bool, cond, ◌∙◌, ap, sym, Some, None}
 use Rattle.cr_judge.proofs.NamedLaws.{there-some}
 use Rattle.cr_judge.proofs.named.there.Goals as goal

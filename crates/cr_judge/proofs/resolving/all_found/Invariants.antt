@@ -1,3 +1,4 @@
+-- SPDX-License-Identifier: Apache-2.0 OR MIT
 use Rattle.std.proofs.Common.{◌≡◌, ◌++◌, drop, length, is_none}
 use Rattle.std.specs.List.{flat_map, list_any}
 use Rattle.cr_base.specs.Accounts.{lines_of}

@@ -1,3 +1,4 @@
+-- SPDX-License-Identifier: Apache-2.0 OR MIT
 use Rattle.cr_judge.proofs.RowEntryLaws.{row-judged, row-fits, row-next}
 use Rattle.cr_judge.proofs.rows.judge_row.Goals as goal
 

@@ -1,3 +1,4 @@
+-- SPDX-License-Identifier: Apache-2.0 OR MIT
 use Rattle.cr_base.specs.Tables.{tables_from}
 use Rattle.cr_judge.proofs.RowEntryLaws.{conflict-own, conflict-other}
 use Rattle.cr_judge.proofs.rows.row_conflict.Goals as goal

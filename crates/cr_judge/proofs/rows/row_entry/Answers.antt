@@ -1,3 +1,4 @@
+-- SPDX-License-Identifier: Apache-2.0 OR MIT
 use Rattle.std.proofs.Common.{◌∙◌, ap, sym}
 use Rattle.cr_base.specs.declared.resolved.ResolvedRow.{ResolvedRow}
 use Rattle.cr_base.specs.Bulk.{resolved_of_row}

@@ -1,3 +1,4 @@
+-- SPDX-License-Identifier: Apache-2.0 OR MIT
 use Rattle.std.proofs.Common.{◌∙◌, List, ap, sym, subst, arith}
 use Rattle.cr_kept.specs.Seen.{SeenDrawer}
 use Rattle.cr_kept.specs.Drawers.{files_from, rooms_of}

@@ -1,3 +1,4 @@
+-- SPDX-License-Identifier: Apache-2.0 OR MIT
 use Rattle.std.proofs.Common.{◌≡◌, ◌+◌, ◌-◌, vec_len}
 use Rattle.cr_kept.specs.Drawers.{files_from, rooms_of}
 use Rattle.cr_rooms.specs.Rooms.{IsNoLess}

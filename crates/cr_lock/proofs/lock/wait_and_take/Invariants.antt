@@ -1,3 +1,4 @@
+-- SPDX-License-Identifier: Apache-2.0 OR MIT
 use Rattle.std.proofs.Common.{◌≡◌, [], ◌+◌}
 use Rattle.cr_lock.specs.declared.pass_state.Activity.TheVariants.{Waiting}
 use Rattle.cr_lock.specs.Steps.{state}

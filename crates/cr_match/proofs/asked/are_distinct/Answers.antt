@@ -1,3 +1,4 @@
+-- SPDX-License-Identifier: Apache-2.0 OR MIT
 use Rattle.cr_match.proofs.Common.{refl, arith, sym, subst, RowHas, OthersStay}
 use Rattle.cr_match.proofs.Distinct.{distinct_from, none_marked, place_small, seen_twice, apart_more, marks_more}
 use Rattle.cr_match.proofs.Walks.{refuted}

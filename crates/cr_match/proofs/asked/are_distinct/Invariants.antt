@@ -1,3 +1,4 @@
+-- SPDX-License-Identifier: Apache-2.0 OR MIT
 use Rattle.cr_match.proofs.Distinct.{AreApart, Marks}
 use Rattle.cr_match.proofs.asked.are_distinct.Given as goal
 

@@ -1,3 +1,4 @@
+-- SPDX-License-Identifier: Apache-2.0 OR MIT
 use Rattle.cr_match.proofs.Common.{AreInside, List, Pair, get_or, pos, negsuc, ◌≤ℤ◌, arith, ints, subst, sym, zero_pair}
 use Rattle.cr_match.proofs.Tells.{drop_at}
 use Rattle.cr_match.proofs.asked.are_inside.Goals as goal

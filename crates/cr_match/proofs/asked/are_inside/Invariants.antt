@@ -1,3 +1,4 @@
+-- SPDX-License-Identifier: Apache-2.0 OR MIT
 use Rattle.cr_match.proofs.Common.{drop, AreInside}
 use Rattle.cr_match.proofs.asked.are_inside.Given as goal
 

@@ -1,3 +1,4 @@
+-- SPDX-License-Identifier: Apache-2.0 OR MIT
 use Rattle.cr_match.proofs.Common.{Board, IsBoard, arith, length, mul-add-lt, ℕ, ◌*◌, ◌+◌, ◌<◌}
 use Rattle.std.proofs.lemmas.List.{get_or_read}
 use Rattle.cr_match.proofs.board.worth_of.Goals as goal

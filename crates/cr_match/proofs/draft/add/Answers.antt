@@ -1,3 +1,4 @@
+-- SPDX-License-Identifier: Apache-2.0 OR MIT
 use Rattle.cr_match.proofs.Flipped.{added, altered_draft}
 use Rattle.cr_match.proofs.draft.add.Goals as goal
 

@@ -1,3 +1,4 @@
+-- SPDX-License-Identifier: Apache-2.0 OR MIT
 use Rattle.cr_match.proofs.Common.{◌≡◌, ◌<◌, ◌⊎◌, arith, inl, inr, refl, true, false, Bool, Takes, Drops}
 use Rattle.cr_match.proofs.Flipped.{flipped, free_back, told_back}
 use Rattle.cr_match.proofs.draft.flip.Goals as goal

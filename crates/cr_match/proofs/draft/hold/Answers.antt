@@ -1,3 +1,4 @@
+-- SPDX-License-Identifier: Apache-2.0 OR MIT
 use Rattle.std.proofs.lemmas.List.{with_items_is}
 use Rattle.std.specs.Vec.{with_items}
 use Rattle.cr_match.proofs.Common.{Global, List, OthersStay, RowHas, Vec, ap, arith, at, get_or, length, subst, sym}

@@ -1,3 +1,4 @@
+-- SPDX-License-Identifier: Apache-2.0 OR MIT
 use Rattle.std.proofs.lemmas.List.{get_or_read}
 use Rattle.cr_match.proofs.Common.{arith, inl, ltb, nat_tests, true, ℕ, ◌<◌, ◌∙◌, ◌≡◌, ◌↔◌}
 use Rattle.cr_match.proofs.Flipped.{iff_trans}

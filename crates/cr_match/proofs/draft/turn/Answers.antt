@@ -1,3 +1,4 @@
+-- SPDX-License-Identifier: Apache-2.0 OR MIT
 use Rattle.cr_match.proofs.Common.{◌≡◌, ◌<◌, ◌≤◌, false, true, arith, sym, subst}
 use Rattle.cr_match.proofs.Common.{Drops, Step, Takes, Turns, step_of}
 use Rattle.cr_match.specs.Draft.{Flips}

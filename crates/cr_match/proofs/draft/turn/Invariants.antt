@@ -1,3 +1,4 @@
+-- SPDX-License-Identifier: Apache-2.0 OR MIT
 use Rattle.cr_match.proofs.Turning.{IsTurning}
 use Rattle.cr_match.proofs.draft.turn.Given as goal
 

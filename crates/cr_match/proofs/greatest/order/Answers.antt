@@ -1,3 +1,4 @@
+-- SPDX-License-Identifier: Apache-2.0 OR MIT
 use Rattle.cr_match.proofs.Common.{List, Pair, subst, sym, IsSettling}
 use Rattle.cr_match.proofs.Finished.{settling_of}
 use Rattle.cr_match.proofs.greatest.order.Goals as goal

@@ -1,3 +1,4 @@
+-- SPDX-License-Identifier: Apache-2.0 OR MIT
 use Rattle.cr_match.proofs.Finished.{best_of}
 use Rattle.cr_match.proofs.greatest.order_if.Goals as goal
 

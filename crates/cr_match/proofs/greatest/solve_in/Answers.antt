@@ -1,3 +1,4 @@
+-- SPDX-License-Identifier: Apache-2.0 OR MIT
 use Rattle.cr_match.proofs.Common.{IsAscending}
 use Rattle.cr_match.specs.Answer.{IsFirstSolved}
 use Rattle.cr_match.specs.Solve.{IsOrdered}

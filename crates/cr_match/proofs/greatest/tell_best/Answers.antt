@@ -1,3 +1,4 @@
+-- SPDX-License-Identifier: Apache-2.0 OR MIT
 use Rattle.cr_match.proofs.Common.{◌≡◌, List, ℕ, Pair, length, map, ap, ◌∙◌, arith, ints, chosen, is_held, lowered}
 use Rattle.cr_match.proofs.Common.{total_weight}
 use Rattle.cr_match.proofs.Finished.{first, solved}

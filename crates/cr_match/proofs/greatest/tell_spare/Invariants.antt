@@ -1,3 +1,4 @@
+-- SPDX-License-Identifier: Apache-2.0 OR MIT
 use Rattle.cr_match.proofs.Common.{◌≡◌, ◌↔◌, ℕ, ◌<◌, get_or, AreMoves, Takes}
 use Rattle.cr_match.proofs.greatest.tell_spare.Given as goal
 

@@ -1,3 +1,4 @@
+-- SPDX-License-Identifier: Apache-2.0 OR MIT
 use Rattle.cr_match.proofs.Told.{tells}
 use Rattle.cr_match.proofs.moves.tell.Goals as goal
 

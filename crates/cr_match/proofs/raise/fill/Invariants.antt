@@ -1,3 +1,4 @@
+-- SPDX-License-Identifier: Apache-2.0 OR MIT
 use Rattle.cr_match.proofs.Common.{◌≡◌, ◌*◌, ◌≤◌, IsRoomy, IsFitting, placed}
 use Rattle.cr_match.proofs.raise.fill.Given as goal
 

@@ -1,3 +1,4 @@
+-- SPDX-License-Identifier: Apache-2.0 OR MIT
 use Rattle.cr_match.proofs.Common.{Clears, Meets, arith, inl, inr, ℕ, ◌<◌}
 use Rattle.cr_match.proofs.Gaps.{least_more, less_clears}
 use Rattle.cr_match.proofs.raise.gap.Goals as goal

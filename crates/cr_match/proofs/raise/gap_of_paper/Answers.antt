@@ -1,3 +1,4 @@
+-- SPDX-License-Identifier: Apache-2.0 OR MIT
 use Rattle.cr_match.proofs.Common.{Clears, Meets}
 use Rattle.cr_match.proofs.Gaps.{least_more, less_clears}
 use Rattle.cr_match.proofs.raise.gap_of_paper.Goals as goal

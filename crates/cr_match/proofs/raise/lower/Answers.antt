@@ -1,3 +1,4 @@
+-- SPDX-License-Identifier: Apache-2.0 OR MIT
 use Rattle.cr_match.proofs.Common.{arith}
 use Rattle.cr_match.proofs.raise.lower.Goals as goal
 

@@ -1,3 +1,4 @@
+-- SPDX-License-Identifier: Apache-2.0 OR MIT
 use Rattle.cr_match.proofs.Common.{◌≡◌, ◌≢◌, ◌+◌, ◌*◌, ◌<◌, ◌≤◌, refl, arith, ap, ◌∙◌, subst, far, Turns, step_of, Step}
 use Rattle.cr_match.proofs.Closed.{IsClosed, closed_of, rise, stuck}
 use Rattle.cr_match.proofs.Raised.{small_after, still_begun, still_fitting}

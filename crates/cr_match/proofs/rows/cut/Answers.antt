@@ -1,3 +1,4 @@
+-- SPDX-License-Identifier: Apache-2.0 OR MIT
 use Rattle.cr_match.proofs.Places.{cut_same, cut_others}
 use Rattle.cr_match.proofs.rows.cut.Goals as goal
 

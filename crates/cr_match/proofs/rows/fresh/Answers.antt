@@ -1,3 +1,4 @@
+-- SPDX-License-Identifier: Apache-2.0 OR MIT
 use Rattle.cr_match.proofs.FreshPlaces.{fresh_bits}
 use Rattle.cr_match.proofs.rows.fresh.Goals as goal
 

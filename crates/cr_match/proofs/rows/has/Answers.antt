@@ -1,3 +1,4 @@
+-- SPDX-License-Identifier: Apache-2.0 OR MIT
 use Rattle.cr_match.proofs.Places.{has_tests}
 use Rattle.cr_match.proofs.rows.has.Goals as goal
 

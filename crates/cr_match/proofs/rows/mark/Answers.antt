@@ -1,3 +1,4 @@
+-- SPDX-License-Identifier: Apache-2.0 OR MIT
 use Rattle.cr_match.proofs.Sets.{mark_same, mark_others, mark_count}
 use Rattle.cr_match.proofs.rows.mark.Goals as goal
 

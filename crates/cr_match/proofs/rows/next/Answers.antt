@@ -1,3 +1,4 @@
+-- SPDX-License-Identifier: Apache-2.0 OR MIT
 use Rattle.cr_match.proofs.Common.{◌≡◌, arith, refl}
 use Rattle.cr_match.proofs.FreshPlaces.{none_here, found_here}
 use Rattle.cr_match.proofs.rows.next.Goals as goal

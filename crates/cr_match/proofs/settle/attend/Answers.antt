@@ -1,3 +1,4 @@
+-- SPDX-License-Identifier: Apache-2.0 OR MIT
 use Rattle.cr_match.proofs.Common.{subst, arith, IsSearched}
 use Rattle.cr_match.proofs.settle.attend.Goals as goal
 

@@ -1,3 +1,4 @@
+-- SPDX-License-Identifier: Apache-2.0 OR MIT
 use Rattle.cr_match.proofs.Common.{inl, subst, Turns}
 use Rattle.cr_match.proofs.settle.bring.Goals.{After-turn}
 use Rattle.cr_match.proofs.settle.bring.Goals as goal

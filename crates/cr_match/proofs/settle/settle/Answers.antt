@@ -1,3 +1,4 @@
+-- SPDX-License-Identifier: Apache-2.0 OR MIT
 use Rattle.cr_match.proofs.Common.{false, ◌≡◌, ◌+◌, inl, inr, subst, sym, Draft, Holds, IsSearched, IsSettling, nth}
 use Rattle.cr_match.proofs.Held.{inside_at}
 use Rattle.cr_match.proofs.Settled.{brought, closed_searched, closing, settled_held, settled_low, settled_out}

@@ -1,3 +1,4 @@
+-- SPDX-License-Identifier: Apache-2.0 OR MIT
 use Rattle.cr_match.proofs.settle.settle_all.Goals as goal
 
 pub loop-i-init : goal.loop-i-init

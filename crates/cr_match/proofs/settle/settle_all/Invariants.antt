@@ -1,3 +1,4 @@
+-- SPDX-License-Identifier: Apache-2.0 OR MIT
 use Rattle.cr_match.proofs.Common.{IsSearched, IsSettling}
 use Rattle.cr_match.proofs.settle.settle_all.Given as goal
 

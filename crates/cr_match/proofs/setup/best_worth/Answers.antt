@@ -1,3 +1,4 @@
+-- SPDX-License-Identifier: Apache-2.0 OR MIT
 use Rattle.cr_match.proofs.Common.{◌≡◌, ◌⊎◌, ◌+◌, ◌≤◌, sym, subst, low, worth}
 use Rattle.cr_match.proofs.Distinct.{best_more}
 use Rattle.cr_match.proofs.setup.best_worth.Goals as goal

@@ -1,3 +1,4 @@
+-- SPDX-License-Identifier: Apache-2.0 OR MIT
 use Rattle.cr_match.proofs.Common.{ℕ, ◌+◌, ◌<◌, ◌≤◌, low, worth}
 use Rattle.cr_match.proofs.setup.best_worth.Given as goal
 

@@ -1,3 +1,4 @@
+-- SPDX-License-Identifier: Apache-2.0 OR MIT
 use Rattle.cr_match.proofs.Common.{◌≡◌, ◌<◌, ◌⊎◌, ℕ, List, length, get_or, ◌∙◌, subst, length-replicate, nth, lifted}
 use Rattle.cr_match.proofs.Common.{Pair}
 use Rattle.std.proofs.Common.{rules}

@@ -1,3 +1,4 @@
+-- SPDX-License-Identifier: Apache-2.0 OR MIT
 use Rattle.cr_match.proofs.Started.{above_none, blank_moves, none_placed, started}
 use Rattle.cr_match.proofs.setup.start.Goals as goal
 

@@ -1,3 +1,4 @@
+-- SPDX-License-Identifier: Apache-2.0 OR MIT
 use Rattle.cr_match.proofs.Common.{◌<◌, length, length-set, arith, ◌∙◌, nth, zero_pair}
 use Rattle.cr_match.proofs.Distinct.{place, place_lt, written_more}
 use Rattle.cr_match.proofs.Room.{inside_all}

@@ -1,3 +1,4 @@
+-- SPDX-License-Identifier: Apache-2.0 OR MIT
 use Rattle.cr_match.proofs.Common.{◌≡◌, length}
 use Rattle.cr_match.proofs.Distinct.{AreWritten}
 use Rattle.cr_match.proofs.setup.write_pairs.Given as goal

@@ -1,3 +1,4 @@
+-- SPDX-License-Identifier: Apache-2.0 OR MIT
 use Rattle.cr_match.proofs.Common.{◌+◌, ◌++◌, List, drop, ap, ◌∙◌, Vec, Global, Pair, chosen, is_held, nth, zero_pair}
 use Rattle.cr_match.proofs.Held.{is_held_if, not_held_if}
 use Rattle.cr_match.proofs.Room.{inside_all}

@@ -1,3 +1,4 @@
+-- SPDX-License-Identifier: Apache-2.0 OR MIT
 use Rattle.cr_match.proofs.Common.{List, [], ◌+◌, ℕ, ap, sym, ◌∙◌, arith, subst, Vec, Global}
 use Rattle.cr_match.specs.Tell.{AreThose}
 use Rattle.cr_match.proofs.Tells.{place_in, place_out}

@@ -1,3 +1,4 @@
+-- SPDX-License-Identifier: Apache-2.0 OR MIT
 use Rattle.cr_match.specs.Tell.{AreThose}
 use Rattle.cr_match.proofs.tell.reached_papers.Given as goal
 

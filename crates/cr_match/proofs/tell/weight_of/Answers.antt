@@ -1,3 +1,4 @@
+-- SPDX-License-Identifier: Apache-2.0 OR MIT
 use Rattle.cr_match.proofs.Common.{arith, ap, ints, total_weight, zero_pair}
 use Rattle.cr_match.proofs.Tells.{drop_at}
 use Rattle.cr_match.proofs.tell.weight_of.Goals as goal

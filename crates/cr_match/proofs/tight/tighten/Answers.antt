@@ -1,3 +1,4 @@
+-- SPDX-License-Identifier: Apache-2.0 OR MIT
 use Rattle.cr_match.proofs.Common.{inl, inr, arith, sym, subst, cases_eq, AreTold}
 use Rattle.cr_match.proofs.Told.{stays_refl, stays_trans, told_on}
 use Rattle.cr_match.proofs.tight.tighten.Goals as goal

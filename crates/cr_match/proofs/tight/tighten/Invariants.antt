@@ -1,3 +1,4 @@
+-- SPDX-License-Identifier: Apache-2.0 OR MIT
 use Rattle.cr_match.proofs.Common.{ℕ, ◌<◌, AreTold}
 use Rattle.cr_match.specs.Tight.{Stays}
 use Rattle.cr_match.proofs.tight.tighten.Given as goal

@@ -1,3 +1,4 @@
+-- SPDX-License-Identifier: Apache-2.0 OR MIT
 use Rattle.cr_match.proofs.Told.{others_one, stays_one, told_held, told_left}
 use Rattle.cr_match.proofs.Walks.{refuted}
 use Rattle.cr_match.proofs.tight.tighten_pair.Goals as goal

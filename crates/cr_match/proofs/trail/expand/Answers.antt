@@ -1,3 +1,4 @@
+-- SPDX-License-Identifier: Apache-2.0 OR MIT
 use Rattle.cr_match.proofs.Common.{List, ℕ, ◌<◌, inl, inr, refl, arith, ap, sym, ◌∙◌, subst, cases_eq, cases_lt, Has}
 use Rattle.cr_match.proofs.Common.{Step, Drops, step_of}
 use Rattle.cr_match.proofs.Walks.{if_none}

@@ -1,3 +1,4 @@
+-- SPDX-License-Identifier: Apache-2.0 OR MIT
 use Rattle.cr_match.proofs.Common.{◌≡◌, ℕ, ◌+◌, ◌-◌, ◌<◌, ◌≤◌, Has, Drops, step_of, IsRoomy, AreSteps, IsReached}
 use Rattle.cr_match.proofs.Common.{GoesOn}
 use Rattle.cr_match.proofs.trail.expand.Given as goal

@@ -1,3 +1,4 @@
+-- SPDX-License-Identifier: Apache-2.0 OR MIT
 use Rattle.cr_match.proofs.Common.{◌≡◌, inl, inr, arith, refl, sym, ◌∙◌, subst, cases_lt, IsExpanded}
 use Rattle.cr_match.proofs.Reached.{on_trans, steps_le, still_expanded}
 use Rattle.cr_match.proofs.Walks.{if_none}

@@ -1,3 +1,4 @@
+-- SPDX-License-Identifier: Apache-2.0 OR MIT
 use Rattle.cr_match.proofs.Common.{ℕ, ◌+◌, ◌-◌, ◌<◌, ◌≤◌, IsRoomy, AreSteps, IsReached, IsExpanded, GoesOn}
 use Rattle.cr_match.proofs.trail.explore.Given as goal
 

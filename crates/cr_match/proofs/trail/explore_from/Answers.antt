@@ -1,3 +1,4 @@
+-- SPDX-License-Identifier: Apache-2.0 OR MIT
 use Rattle.cr_match.proofs.Common.{arith}
 use Rattle.cr_match.proofs.Reached.{IsRooted, found_or_done, room, rooted_done, rooted_long, rooted_reached}
 use Rattle.cr_match.proofs.Reached.{rooted_steps}

@@ -1,3 +1,4 @@
+-- SPDX-License-Identifier: Apache-2.0 OR MIT
 use Rattle.cr_match.proofs.Common.{◌+◌, arith, refl}
 use Rattle.cr_match.proofs.Walks.{some_row, none_row}
 use Rattle.cr_match.proofs.trail.next_dropped.Goals as goal

@@ -1,3 +1,4 @@
+-- SPDX-License-Identifier: Apache-2.0 OR MIT
 use Rattle.cr_match.proofs.Common.{◌≡◌, ◌-◌, ◌<◌, length, inl, inr, arith, ap, sym, ◌∙◌, subst, refl, cases_eq}
 use Rattle.cr_match.proofs.Common.{cases_lt, Has, RowHas, Drops, step_of, AreSteps}
 use Rattle.cr_match.proofs.Reached.{either, goes_on, goes_trans, last_member, room, still_drops, still_long}

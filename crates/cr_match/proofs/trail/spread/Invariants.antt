@@ -1,3 +1,4 @@
+-- SPDX-License-Identifier: Apache-2.0 OR MIT
 use Rattle.cr_match.proofs.Common.{◌≡◌, ℕ, ◌-◌, ◌<◌, ◌≤◌, Has, Takes, IsLong, AreSteps, NoneDrops, Goes}
 use Rattle.cr_match.proofs.trail.spread.Given as goal
 

@@ -1,3 +1,4 @@
+-- SPDX-License-Identifier: Apache-2.0 OR MIT
 use Rattle.std.proofs.Common.{◌∙◌, List, ap, sym, subst, arith}
 use Rattle.cr_rooms.specs.Rooms.{IsNoLess}
 use Rattle.cr_rooms.proofs.RoomLaws.{no-less-behind}

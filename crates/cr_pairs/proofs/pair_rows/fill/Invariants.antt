@@ -1,3 +1,4 @@
+-- SPDX-License-Identifier: Apache-2.0 OR MIT
 use Rattle.std.proofs.Common.{◌≡◌, ◌+◌, ◌-◌, vec_len}
 use Rattle.cr_rooms.specs.Rooms.{IsNoLess}
 use Rattle.cr_pairs.specs.Rows.{ties_in, rooms_of, AreRows}

@@ -1,3 +1,4 @@
+-- SPDX-License-Identifier: Apache-2.0 OR MIT
 use Rattle.std.proofs.Common.{ℕ, Bool, List, length, ◌≡◌, ◌≤◌, ◌∙◌, ap, subst, sym, arith}
 use Rattle.std.specs.Prelude.{filter}
 use Rattle.cr_base.specs.declared.entry.Account.{Account}

@@ -1,3 +1,4 @@
+-- SPDX-License-Identifier: Apache-2.0 OR MIT
 use Rattle.std.proofs.Common.{ℕ, List, subst, sym, arith}
 use Rattle.cr_match.specs.declared.problem.Pair.{Pair}
 use Rattle.cr_plans.specs.Pairing.{AllWeigh, pairs_of_place}

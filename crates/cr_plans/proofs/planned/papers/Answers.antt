@@ -1,3 +1,4 @@
+-- SPDX-License-Identifier: Apache-2.0 OR MIT
 use Rattle.std.proofs.Common.{ℕ, Bool, List, ◌++◌, ◌<◌, ◌≤◌, ◌∙◌, ap, subst, arith}
 use Rattle.cr_base.specs.Lists.{given}
 use Rattle.cr_view.specs.Plans.{is_planned_in}

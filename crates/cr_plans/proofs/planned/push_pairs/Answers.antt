@@ -1,3 +1,4 @@
+-- SPDX-License-Identifier: Apache-2.0 OR MIT
 use Rattle.std.proofs.Common.{ℕ, List, drop, get_or, subst, sym, ◌+◌}
 use Rattle.std.proofs.lemmas.List.{drop_more}
 use Rattle.cr_base.specs.declared.reply.AccountLine.{AccountLine}

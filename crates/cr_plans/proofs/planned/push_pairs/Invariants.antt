@@ -1,3 +1,4 @@
+-- SPDX-License-Identifier: Apache-2.0 OR MIT
 use Rattle.std.proofs.Common.{◌≡◌, ◌++◌, drop}
 use Rattle.cr_plans.specs.Pairing.{AllWeigh, pairs_of_place}
 use Rattle.cr_plans.proofs.planned.push_pairs.Given as goal

@@ -1,3 +1,4 @@
+-- SPDX-License-Identifier: Apache-2.0 OR MIT
 use Rattle.std.proofs.Common.{sym, ◌∙◌}
 use Rattle.cr_plans.proofs.Answered.{due-refused, due-told, due-none, due-unserved}
 use Rattle.cr_plans.proofs.plans.answer.Goals as goal

@@ -1,3 +1,4 @@
+-- SPDX-License-Identifier: Apache-2.0 OR MIT
 use Rattle.std.proofs.Common.{length, get_or, refl, ◌∙◌, arith}
 use Rattle.std.specs.Prelude.{pos}
 use Rattle.cr_match.specs.declared.problem.Pair.{Pair}

@@ -1,3 +1,4 @@
+-- SPDX-License-Identifier: Apache-2.0 OR MIT
 use Rattle.std.proofs.Common.{◌≡◌, ◌+◌, ◌-◌, ◌^◌, min, sum_by, take}
 use Rattle.cr_ports.specs.MemoryDoors.{Doored}
 use Rattle.cr_ports.proofs.gates_in_memory.faults_with.Given as goal

@@ -1,3 +1,4 @@
+-- SPDX-License-Identifier: Apache-2.0 OR MIT
 use Rattle.std.proofs.Common.{rules, ◌≡◌, ◌<◌, ◌+◌, ◌-◌, ◌∙◌, ◌++◌, ◌∷◌, [], ap, arith, length}
 use Rattle.std.proofs.lemmas.List.{length_push}
 use Rattle.cr_ports.specs.MemoryDoors.{silent}

@@ -1,3 +1,4 @@
+-- SPDX-License-Identifier: Apache-2.0 OR MIT
 use Rattle.std.proofs.Common.{◌≡◌, ◌≤◌, ◌-◌, ◌++◌, length, replicate}
 use Rattle.cr_ports.specs.MemoryDoors.{silent}
 use Rattle.cr_ports.proofs.gates_in_memory.fill.Given as goal

@@ -1,3 +1,4 @@
+-- SPDX-License-Identifier: Apache-2.0 OR MIT
 use Rattle.std.proofs.Common.{rules, ◌≡◌, ◌≤◌, ◌∙◌, ◌++◌, ◌∷◌, [], ap, sym, arith, length, length-drop, take}
 use Rattle.std.proofs.lemmas.List.{length-take-le}
 use Rattle.cr_ports.specs.Doors.{unasked}

@@ -1,3 +1,4 @@
+-- SPDX-License-Identifier: Apache-2.0 OR MIT
 use Rattle.std.proofs.Common.{◌≡◌, ◌≤◌, ◌+◌, ◌++◌, All, flat_map, length, map}
 use Rattle.cr_ports.specs.Doors.{shares_below, unasked}
 use Rattle.cr_ports.specs.MemoryDoors.{Doored, calls_below}

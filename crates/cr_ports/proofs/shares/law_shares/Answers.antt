@@ -1,3 +1,4 @@
+-- SPDX-License-Identifier: Apache-2.0 OR MIT
 use Rattle.cr_ports.proofs.Sharing.{length-shares_below, shares_add_up}
 use Rattle.cr_ports.proofs.shares.law_shares.Goals as goal
 

@@ -1,3 +1,4 @@
+-- SPDX-License-Identifier: Apache-2.0 OR MIT
 use Rattle.std.proofs.Common.{arith, drop, length, ◌-◌, ◌∙◌, length-take, length-drop, refl}
 use Rattle.std.proofs.lemmas.List.{take_rest}
 use Rattle.cr_ports.specs.Writing.{outlet_of}

@@ -1,3 +1,4 @@
+-- SPDX-License-Identifier: Apache-2.0 OR MIT
 use Rattle.std.proofs.Common.{◌≡◌, ◌≤◌, ◌-◌, length, take}
 use Rattle.cr_ports.specs.Stream.{taken_and}
 use Rattle.cr_ports.proofs.writing.write_all.Given as goal

@@ -1,3 +1,4 @@
+-- SPDX-License-Identifier: Apache-2.0 OR MIT
 use Rattle.cr_print.specs.Found.{count_members, count_content}
 use Rattle.cr_json.proofs.Objects.{closed}
 use Rattle.cr_print.proofs.found.append_count.Goals as goal

@@ -1,3 +1,4 @@
+-- SPDX-License-Identifier: Apache-2.0 OR MIT
 use Rattle.cr_print.specs.Found.{found_members, found_content}
 use Rattle.cr_json.specs.Json.{Added}
 use Rattle.cr_json.proofs.Objects.{◌then◌, closed}

@@ -1,3 +1,4 @@
+-- SPDX-License-Identifier: Apache-2.0 OR MIT
 use Rattle.std.proofs.Common.{arith}
 use Rattle.cr_print.proofs.Chain.{◌then◌, within}
 use Rattle.cr_print.proofs.head.print_head.Goals as goal

@@ -1,3 +1,4 @@
+-- SPDX-License-Identifier: Apache-2.0 OR MIT
 use Rattle.std.proofs.Common.{◌≡◌, ◌≤◌, length, arith, ap, ◌∙◌}
 use Rattle.http.specs.StatusCode.{code_digits}
 use Rattle.cr_print.specs.Head.{status_line}

@@ -1,3 +1,4 @@
+-- SPDX-License-Identifier: Apache-2.0 OR MIT
 use Rattle.std.proofs.Common.{arith}
 use Rattle.cr_print.specs.Head.{type_line}
 use Rattle.cr_print.proofs.Chain.{◌then◌, within}

@@ -1,3 +1,4 @@
+-- SPDX-License-Identifier: Apache-2.0 OR MIT
 use Rattle.std.proofs.Common.{refl}
 use Rattle.cr_json.specs.Times.{falls_in, civil_of}
 use Rattle.cr_print.specs.Dates.{date_of, date_text}

@@ -1,3 +1,4 @@
+-- SPDX-License-Identifier: Apache-2.0 OR MIT
 use Rattle.std.proofs.Common.{◌∙◌}
 use Rattle.cr_print.proofs.Ready.{ready_head, ready_whole}
 use Rattle.cr_print.proofs.no_memory.no_memory_text.Goals as goal

@@ -1,3 +1,4 @@
+-- SPDX-License-Identifier: Apache-2.0 OR MIT
 use Rattle.cr_print.specs.Receipt.{receipt_members}
 use Rattle.cr_json.proofs.Objects.{◌then◌}
 use Rattle.cr_print.proofs.receipt.add_named.Goals as goal

@@ -1,3 +1,4 @@
+-- SPDX-License-Identifier: Apache-2.0 OR MIT
 use Rattle.cr_print.specs.Refused.{further_members}
 use Rattle.cr_json.proofs.Objects.{◌then◌}
 use Rattle.cr_print.proofs.refused.add_row.Goals as goal

@@ -1,3 +1,4 @@
+-- SPDX-License-Identifier: Apache-2.0 OR MIT
 use Rattle.std.proofs.Common.{◌≡◌, ◌*◌, length, replicate}
 use Rattle.std.specs.Prelude.{fold}
 use Rattle.cr_reports.specs.Loads.{AreFew, Becomes, no_load, with_clear}

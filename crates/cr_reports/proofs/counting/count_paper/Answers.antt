@@ -1,3 +1,4 @@
+-- SPDX-License-Identifier: Apache-2.0 OR MIT
 use Rattle.std.proofs.Common.{ℕ, Bool, ◌+◌, arith}
 use Rattle.cr_base.specs.Reviews.{is_written_in}
 use Rattle.cr_reports.proofs.CountLaws.{few-within}

@@ -1,3 +1,4 @@
+-- SPDX-License-Identifier: Apache-2.0 OR MIT
 use Rattle.std.proofs.Common.{◌≡◌, length, take}
 use Rattle.cr_base.specs.Reviews.{is_written_in}
 use Rattle.cr_reports.specs.Loads.{Becomes, with_seats}

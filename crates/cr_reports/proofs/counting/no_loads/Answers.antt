@@ -1,3 +1,4 @@
+-- SPDX-License-Identifier: Apache-2.0 OR MIT
 use Rattle.std.proofs.Common.{◌≡◌, arith}
 use Rattle.cr_reports.proofs.CountLaws.{filled}
 use Rattle.cr_reports.proofs.counting.no_loads.Goals as goal

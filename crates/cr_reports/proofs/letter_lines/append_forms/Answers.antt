@@ -1,3 +1,4 @@
+-- SPDX-License-Identifier: Apache-2.0 OR MIT
 use Rattle.std.proofs.Common.{ℕ, List, ◌+◌, ◌++◌, ◌∙◌, append_assoc, ap, refl, arith}
 use Rattle.cr_base.specs.Labels.{by_labels}
 use Rattle.cr_view.proofs.ReviewLaws.{labels-step, labels-all}

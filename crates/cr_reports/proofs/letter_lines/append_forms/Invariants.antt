@@ -1,3 +1,4 @@
+-- SPDX-License-Identifier: Apache-2.0 OR MIT
 use Rattle.std.proofs.Common.{◌≡◌, ◌++◌}
 use Rattle.cr_base.specs.Labels.{by_labels}
 use Rattle.cr_reports.specs.ReportLines.{forms_under}

@@ -1,3 +1,4 @@
+-- SPDX-License-Identifier: Apache-2.0 OR MIT
 use Rattle.std.proofs.Common.{◌≡◌, ◌∙◌, List, ℕ, Option, ap, subst}
 use Rattle.std.specs.Prelude.{OnOk}
 use Rattle.cr_base.specs.declared.words.Decision.{Decision}

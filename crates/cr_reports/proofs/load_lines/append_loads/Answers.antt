@@ -1,3 +1,4 @@
+-- SPDX-License-Identifier: Apache-2.0 OR MIT
 use Rattle.std.proofs.Common.{ℕ, List, ◌++◌, ◌∙◌, ap, arith}
 use Rattle.cr_reports.specs.declared.counts.Load.{Load}
 use Rattle.cr_reports.specs.Loads.{member_line}

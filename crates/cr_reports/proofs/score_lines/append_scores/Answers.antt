@@ -1,3 +1,4 @@
+-- SPDX-License-Identifier: Apache-2.0 OR MIT
 use Rattle.std.proofs.Common.{ℕ, List, ◌<◌, ◌≤◌, ◌++◌, ◌∙◌, ap, subst, arith}
 use Rattle.cr_reports.specs.ReportLines.{is_open_to, scores_line_at}
 use Rattle.cr_reports.proofs.OpenLaws.{open-told}

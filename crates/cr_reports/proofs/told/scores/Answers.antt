@@ -1,3 +1,4 @@
+-- SPDX-License-Identifier: Apache-2.0 OR MIT
 use Rattle.cr_base.specs.declared.report.Report.TheVariants as reports
 use Rattle.cr_reports.proofs.ToldLaws.{due-refused, due-told, due-unserved}
 use Rattle.cr_reports.proofs.told.scores.Goals as goal

@@ -1,3 +1,4 @@
+-- SPDX-License-Identifier: Apache-2.0 OR MIT
 use Rattle.std.proofs.Common.{Bool, ◌||◌, ◌∙◌, ap, sym}
 use Rattle.cr_reviews.specs.Labels.{has_label}
 use Rattle.cr_reviews.proofs.UnderLaws.{written-never, written-under}

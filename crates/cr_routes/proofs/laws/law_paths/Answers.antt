@@ -1,3 +1,4 @@
+-- SPDX-License-Identifier: Apache-2.0 OR MIT
 use Rattle.std.proofs.Common.{refl}
 use Rattle.cr_routes.specs.Parts.{found_at}
 use Rattle.cr_routes.proofs.Resources.{unrooted}

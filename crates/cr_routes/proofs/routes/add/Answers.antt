@@ -1,3 +1,4 @@
+-- SPDX-License-Identifier: Apache-2.0 OR MIT
 use Rattle.cr_routes.proofs.Adding.{only_memory}
 use Rattle.cr_routes.proofs.routes.add.Goals as goal
 

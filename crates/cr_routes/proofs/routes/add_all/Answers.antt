@@ -1,3 +1,4 @@
+-- SPDX-License-Identifier: Apache-2.0 OR MIT
 use Rattle.cr_routes.proofs.Adding.{more_added, none_left, fits_next}
 use Rattle.cr_routes.proofs.routes.add_all.Goals as goal
 

@@ -1,3 +1,4 @@
+-- SPDX-License-Identifier: Apache-2.0 OR MIT
 use Rattle.std.proofs.Common.{◌≡◌, drop, map, IsTrue}
 use Rattle.cr_routes.specs.Rows.{line, added, fits}
 use Rattle.cr_routes.proofs.routes.add_all.Given as goal

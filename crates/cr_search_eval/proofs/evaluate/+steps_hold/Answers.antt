@@ -1,3 +1,4 @@
+-- SPDX-License-Identifier: Apache-2.0 OR MIT
 use Rattle.std.proofs.Common.{◌∙◌, refl, sym, arith, length, take, ◌-◌, rules}
 use Rattle.cr_base.specs.declared.search.Step.TheVariants as step
 use Rattle.cr_base.specs.Searching.{term_holds}

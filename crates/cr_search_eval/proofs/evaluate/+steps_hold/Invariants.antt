@@ -1,3 +1,4 @@
+-- SPDX-License-Identifier: Apache-2.0 OR MIT
 use Rattle.std.proofs.Common.{length}
 use Rattle.cr_search_eval.proofs.evaluate.+steps_hold.Given as goal
 

@@ -1,3 +1,4 @@
+-- SPDX-License-Identifier: Apache-2.0 OR MIT
 use Rattle.std.proofs.Common.{Bool, length, ap, sym, ◌∙◌}
 use Rattle.cr_base.specs.Lists.{given}
 use Rattle.cr_search_eval.proofs.papers.count_one.Goals as goal

@@ -1,3 +1,4 @@
+-- SPDX-License-Identifier: Apache-2.0 OR MIT
 use Rattle.std.proofs.Common.{◌≡◌, ◌++◌, drop, map}
 use Rattle.cr_search_eval.specs.Found.{titled}
 use Rattle.cr_search_eval.proofs.papers.found.Given as goal

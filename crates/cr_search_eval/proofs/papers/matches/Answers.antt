@@ -1,3 +1,4 @@
+-- SPDX-License-Identifier: Apache-2.0 OR MIT
 use Rattle.cr_search_eval.proofs.FoundLaws.{found-where}
 use Rattle.cr_search_eval.proofs.papers.matches.Goals as goal
 

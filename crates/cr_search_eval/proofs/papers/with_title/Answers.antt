@@ -1,3 +1,4 @@
+-- SPDX-License-Identifier: Apache-2.0 OR MIT
 use Rattle.std.proofs.Common.{ℕ, List, ap}
 use Rattle.cr_base.specs.declared.found.FoundPaper.{FoundPaper}
 use Rattle.cr_search_eval.proofs.papers.with_title.Goals as goal

@@ -1,3 +1,4 @@
+-- SPDX-License-Identifier: Apache-2.0 OR MIT
 use Rattle.std.proofs.Common.{ℕ, List, ◌∙◌, ap}
 use Rattle.std.specs.List.{list_any}
 use Rattle.cr_base.specs.declared.pairs.Order.TheVariants.{ByPaper}

@@ -1,3 +1,4 @@
+-- SPDX-License-Identifier: Apache-2.0 OR MIT
 use Rattle.std.proofs.Common.{sym}
 use Rattle.cr_search_eval.proofs.TextLaws.{begins-short}
 use Rattle.cr_search_eval.proofs.text.begins_alike.Goals as goal

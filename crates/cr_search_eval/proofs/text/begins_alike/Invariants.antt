@@ -1,3 +1,4 @@
+-- SPDX-License-Identifier: Apache-2.0 OR MIT
 use Rattle.std.proofs.Common.{◌≡◌, drop}
 use Rattle.cr_base.specs.Searching.{begins_alike}
 use Rattle.cr_search_eval.proofs.text.begins_alike.Given as goal

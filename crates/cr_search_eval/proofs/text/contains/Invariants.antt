@@ -1,3 +1,4 @@
+-- SPDX-License-Identifier: Apache-2.0 OR MIT
 use Rattle.std.proofs.Common.{◌≡◌, length}
 use Rattle.cr_base.specs.Searching.{contains}
 use Rattle.cr_search_eval.proofs.TextLaws.{stands_at_some, AreIn}

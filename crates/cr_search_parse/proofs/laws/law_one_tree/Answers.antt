@@ -1,3 +1,4 @@
+-- SPDX-License-Identifier: Apache-2.0 OR MIT
 use Rattle.cr_search_parse.specs.Grammar.{symbols_of}
 use Rattle.cr_search_parse.specs.Runs.{runs_of}
 use Rattle.cr_search_parse.proofs.OffsetLaws.{one}

@@ -1,3 +1,4 @@
+-- SPDX-License-Identifier: Apache-2.0 OR MIT
 use Rattle.cr_search_parse.specs.Reading.{text_read}
 use Rattle.cr_search_parse.proofs.ReadingLaws.{said, one-said}
 use Rattle.cr_search_parse.proofs.laws.law_reading.Goals as goal

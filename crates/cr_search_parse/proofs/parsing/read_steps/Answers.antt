@@ -1,3 +1,4 @@
+-- SPDX-License-Identifier: Apache-2.0 OR MIT
 use Rattle.std.proofs.Common.{drop, length-drop, arith}
 use Rattle.std.proofs.lemmas.List.{take_rest}
 use Rattle.cr_search_parse.specs.Cutting.{run_told}

@@ -1,3 +1,4 @@
+-- SPDX-License-Identifier: Apache-2.0 OR MIT
 -- The bytes passed and those that follow are all.
 use Rattle.std.proofs.Common.{◌≡◌, ◌+◌, drop, false}
 use Rattle.cr_search_parse.specs.Cutting.{chunk_length}

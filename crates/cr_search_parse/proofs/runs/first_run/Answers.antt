@@ -1,3 +1,4 @@
+-- SPDX-License-Identifier: Apache-2.0 OR MIT
 use Rattle.std.proofs.Common.{◌≡◌, get_or, rules}
 use Rattle.cr_search_parse.proofs.RunLaws.{run-spaces, run-taken}
 use Rattle.cr_search_parse.proofs.runs.first_run.Goals as goal

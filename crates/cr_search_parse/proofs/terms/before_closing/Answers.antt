@@ -1,3 +1,4 @@
+-- SPDX-License-Identifier: Apache-2.0 OR MIT
 use Rattle.std.proofs.Common.{◌<◌, ◌-◌, ◌∙◌, length, sym, arith, rules}
 use Rattle.cr_search_parse.proofs.TermLaws.{not-closed, is-closed}
 use Rattle.cr_search_parse.proofs.terms.before_closing.Goals as goal

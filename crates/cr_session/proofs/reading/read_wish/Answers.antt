@@ -1,3 +1,4 @@
+-- SPDX-License-Identifier: Apache-2.0 OR MIT
 use Rattle.std.proofs.Common.{sym}
 use Rattle.cr_session.proofs.Answering.{moments-nil}
 use Rattle.cr_session.proofs.ReadLaws.{read_no_memory, read_refused, read_whole}

@@ -1,3 +1,4 @@
+-- SPDX-License-Identifier: Apache-2.0 OR MIT
 use Rattle.cr_ports.proofs.WritingLaws.{answer_breaks_sooner}
 use Rattle.cr_session.proofs.serve.send.Goals as goal
 

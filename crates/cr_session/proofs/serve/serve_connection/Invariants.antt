@@ -1,3 +1,4 @@
+-- SPDX-License-Identifier: Apache-2.0 OR MIT
 use Rattle.std.proofs.Common.{◌≤◌, ◌-◌, [], vec_capacity}
 use Rattle.cr_session.specs.Serving.{GoesOnInHistory, world_of}
 use Rattle.cr_session.specs.Passing.{StaysPass}

@@ -1,3 +1,4 @@
+-- SPDX-License-Identifier: Apache-2.0 OR MIT
 use Rattle.std.proofs.Common.{ℕ, List, refl, sym, subst}
 use Rattle.cr_session.specs.Answering.{desk_of}
 use Rattle.cr_session.specs.Serving.{world_of, GoesOnInHistory}

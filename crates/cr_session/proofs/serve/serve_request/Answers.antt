@@ -1,3 +1,4 @@
+-- SPDX-License-Identifier: Apache-2.0 OR MIT
 use Rattle.std.proofs.Common.{◌∙◌, ◌++◌, ap, refl}
 use Rattle.cr_session.specs.Replay.{ledger_of}
 use Rattle.cr_session.specs.Told.{sending_of}

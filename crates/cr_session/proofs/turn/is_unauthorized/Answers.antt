@@ -1,3 +1,4 @@
+-- SPDX-License-Identifier: Apache-2.0 OR MIT
 use Rattle.std.proofs.Common.{ℕ, Option, None, ◌∙◌, ap, sym}
 use Rattle.cr_policy.specs.View.{view}
 use Rattle.cr_wire.specs.declared.what.What.{What}

@@ -1,3 +1,4 @@
+-- SPDX-License-Identifier: Apache-2.0 OR MIT
 use Rattle.std.proofs.Common.{◌∙◌, Err, ℕ, false, ap, sym}
 use Rattle.cr_base.specs.Calls.{call_of}
 use Rattle.cr_base.specs.History.{History}

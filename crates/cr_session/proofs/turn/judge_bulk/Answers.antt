@@ -1,3 +1,4 @@
+-- SPDX-License-Identifier: Apache-2.0 OR MIT
 use Rattle.std.proofs.Common.{ℕ, Option, subst, sym}
 use Rattle.cr_base.specs.Calls.{bulk_by, maker_of}
 use Rattle.cr_policy.specs.Judge.{decide_bulk}

@@ -1,3 +1,4 @@
+-- SPDX-License-Identifier: Apache-2.0 OR MIT
 use Rattle.std.proofs.Common.{◌∙◌, Err, Some, false, ap}
 use Rattle.cr_base.specs.Calls.{bulk_by}
 use Rattle.cr_policy.specs.Judge.{decide_bulk}

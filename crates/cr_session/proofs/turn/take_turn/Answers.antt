@@ -1,3 +1,4 @@
+-- SPDX-License-Identifier: Apache-2.0 OR MIT
 use Rattle.std.proofs.Common.{◌∙◌, subst, sym, refl, false, Option}
 use Rattle.cr_base.specs.Drawn.{Drawn}
 use Rattle.cr_wire.specs.Bounds.{IsBoundedWhat}

@@ -1,3 +1,4 @@
+-- SPDX-License-Identifier: Apache-2.0 OR MIT
 use Rattle.cr_sights.specs.Lines.{fifth_members}
 use Rattle.cr_sights.proofs.MemberLaws.{six}
 use Rattle.cr_sights.proofs.line.add_fifth.Goals as goal

@@ -1,3 +1,4 @@
+-- SPDX-License-Identifier: Apache-2.0 OR MIT
 use Rattle.cr_sights.specs.Lines.{fourth_members}
 use Rattle.cr_sights.proofs.MemberLaws.{five}
 use Rattle.cr_sights.proofs.line.add_fourth.Goals as goal

@@ -1,3 +1,4 @@
+-- SPDX-License-Identifier: Apache-2.0 OR MIT
 use Rattle.std.proofs.Common.{◌≡◌, ◌∙◌, ◌++◌, ap, append_assoc, codes, Ok}
 use Rattle.cr_json.specs.Json.{object_text}
 use Rattle.cr_json.proofs.Objects.{◌then◌, closed}

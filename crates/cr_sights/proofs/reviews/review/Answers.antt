@@ -1,3 +1,4 @@
+-- SPDX-License-Identifier: Apache-2.0 OR MIT
 use Rattle.std.proofs.Common.{◌≡◌, ◌∙◌, List, [], ◌∷◌, sym, ap, Some, Bor}
 use Rattle.std.specs.Option.{option_map}
 use Rattle.cr_base.specs.declared.entry.Entry.{Entry}

@@ -1,3 +1,4 @@
+-- SPDX-License-Identifier: Apache-2.0 OR MIT
 use Rattle.std.proofs.Common.{◌≡◌, ◌≤◌, ◌+◌, [], length, Some, ◌-◌}
 use Rattle.cr_policy.specs.View.{sights}
 use Rattle.cr_sights.specs.Positions.{AreNoted}

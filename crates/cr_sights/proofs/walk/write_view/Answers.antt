@@ -1,3 +1,4 @@
+-- SPDX-License-Identifier: Apache-2.0 OR MIT
 use Rattle.std.proofs.Common.{◌∙◌, Some}
 use Rattle.cr_base.specs.Lists.{listed}
 use Rattle.cr_ports.specs.Writing.{outlet_of}

@@ -1,3 +1,4 @@
+-- SPDX-License-Identifier: Apache-2.0 OR MIT
 use Rattle.cr_sqlite.proofs.Committing.{nothing_more}
 use Rattle.cr_sqlite.proofs.migrate.move_table.Goals as goal
 

@@ -1,3 +1,4 @@
+-- SPDX-License-Identifier: Apache-2.0 OR MIT
 use Rattle.std.proofs.Common.{refl, ◌∙◌}
 use Rattle.cr_sqlite.proofs.Committing.{nothing_yet, nothing_more}
 use Rattle.cr_sqlite.proofs.migrate.move_tables.Goals as goal

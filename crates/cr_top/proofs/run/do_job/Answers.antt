@@ -1,3 +1,4 @@
+-- SPDX-License-Identifier: Apache-2.0 OR MIT
 use Rattle.std.proofs.Common.{◌≡◌, ◌∙◌, ◌<◌, ◌⊎◌, ℕ, List, [], Some, None, refl, ap, subst, sym, arith}
 use Rattle.std.specs.Prelude.{option_map}
 use Rattle.cr_base.specs.History.{History}

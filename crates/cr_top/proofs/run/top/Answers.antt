@@ -1,3 +1,4 @@
+-- SPDX-License-Identifier: Apache-2.0 OR MIT
 use Rattle.std.proofs.Common.{⊎_elim, inl, inr}
 use Rattle.cr_top.proofs.run.top.Goals as goal
 

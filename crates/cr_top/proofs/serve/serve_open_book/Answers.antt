@@ -1,3 +1,4 @@
+-- SPDX-License-Identifier: Apache-2.0 OR MIT
 use Rattle.std.proofs.Common.{◌∙◌, ℕ, List, ap, refl, sym, subst}
 use Rattle.std.specs.Prelude.{Bool, is_ok, map}
 use Rattle.cr_ports.specs.Writing.{outlet_of}

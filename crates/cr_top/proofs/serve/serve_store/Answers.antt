@@ -1,3 +1,4 @@
+-- SPDX-License-Identifier: Apache-2.0 OR MIT
 use Rattle.std.proofs.Common.{◌∙◌, List, Bool, inr, inl, refl, subst, sym}
 use Rattle.cr_top.specs.Serves.{gates_of}
 use Rattle.cr_top.specs.Stores.{state_of}

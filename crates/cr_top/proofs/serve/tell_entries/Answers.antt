@@ -1,3 +1,4 @@
+-- SPDX-License-Identifier: Apache-2.0 OR MIT
 use Rattle.std.proofs.Common.{◌∙◌, ℕ, List, subst}
 use Rattle.cr_ports.specs.Writing.{BreaksOff, Writes, outlet_of}
 use Rattle.cr_top.proofs.Entries.{told_end, told_no_number, told_no_word}

@@ -1,3 +1,4 @@
+-- SPDX-License-Identifier: Apache-2.0 OR MIT
 use Rattle.std.proofs.Common.{ℕ, List, Bool, ap, subst, sym, ◌∙◌}
 use Rattle.std.specs.Prelude.{IfSome}
 use Rattle.cr_ports.specs.Count.{Gains}

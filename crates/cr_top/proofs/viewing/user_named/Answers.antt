@@ -1,3 +1,4 @@
+-- SPDX-License-Identifier: Apache-2.0 OR MIT
 use Rattle.std.proofs.Common.{sym, arith}
 use Rattle.cr_top.proofs.Stored.{nobody-has}
 use Rattle.cr_top.proofs.viewing.user_named.Goals as goal

@@ -1,3 +1,4 @@
+-- SPDX-License-Identifier: Apache-2.0 OR MIT
 use Rattle.cr_bulk.specs.Rows.{parse_rows}
 use Rattle.cr_wire.proofs.AskLaws.{looked_rows}
 use Rattle.cr_wire.specs.Number.{own_key}

@@ -1,3 +1,4 @@
+-- SPDX-License-Identifier: Apache-2.0 OR MIT
 use Rattle.cr_routes.specs.Parts.{seen}
 use Rattle.cr_wire.proofs.AskLaws.{key-given, looked}
 use Rattle.cr_wire.specs.Number.{own_key}

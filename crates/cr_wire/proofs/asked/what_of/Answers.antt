@@ -1,3 +1,4 @@
+-- SPDX-License-Identifier: Apache-2.0 OR MIT
 use Rattle.std.proofs.Common.{sym, ◌∙◌, ap, subst, option_map}
 use Rattle.std.specs.Prelude.{OnErr}
 use Rattle.cr_http.specs.Requests.{RequestText}

@@ -1,3 +1,4 @@
+-- SPDX-License-Identifier: Apache-2.0 OR MIT
 use Rattle.std.proofs.Common.{List, subst, sym, ◌∙◌}
 use Rattle.cr_http.specs.Requests.{RequestText}
 use Rattle.cr_wire.specs.Wishes.{closes_behind, AreWishes}

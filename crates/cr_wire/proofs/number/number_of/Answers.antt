@@ -1,3 +1,4 @@
+-- SPDX-License-Identifier: Apache-2.0 OR MIT
 use Rattle.std.proofs.Common.{sym, ◌∙◌}
 use Rattle.cr_wire.proofs.Numbers.{number_digits, number_told}
 use Rattle.cr_wire.proofs.number.number_of.Goals as goal

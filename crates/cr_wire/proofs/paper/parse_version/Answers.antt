@@ -1,3 +1,4 @@
+-- SPDX-License-Identifier: Apache-2.0 OR MIT
 use Rattle.std.proofs.Common.{sym, ◌∙◌}
 use Rattle.cr_wire.proofs.Numbers.{unread}
 use Rattle.cr_wire.proofs.paper.parse_version.Goals as goal

@@ -1,3 +1,4 @@
+-- SPDX-License-Identifier: Apache-2.0 OR MIT
 use Rattle.std.proofs.lemmas.Result.{IfOk-weaker}
 use Rattle.cr_wire.specs.Query.{decoded}
 use Rattle.cr_wire.proofs.query.decoded.Goals as goal

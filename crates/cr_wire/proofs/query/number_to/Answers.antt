@@ -1,3 +1,4 @@
+-- SPDX-License-Identifier: Apache-2.0 OR MIT
 use Rattle.std.proofs.Common.{ℕ, ◌≤◌, subst, sym, arith, ◌∙◌}
 use Rattle.cr_wire.proofs.Numbers.{short_digits, short_low}
 use Rattle.cr_wire.proofs.query.number_to.Goals as goal

@@ -1,3 +1,4 @@
+-- SPDX-License-Identifier: Apache-2.0 OR MIT
 use Rattle.std.proofs.Common.{◌≡◌, length, codes}
 use Rattle.std.specs.List.{list_any}
 use Rattle.cr_http.specs.Head.{values_of}

@@ -1,3 +1,4 @@
+-- SPDX-License-Identifier: Apache-2.0 OR MIT
 use Rattle.cr_words.proofs.ServeLaws.{taken, bad_workers, bad_connections}
 use Rattle.cr_words.proofs.laws.law_serve.Goals as goal
 

@@ -1,3 +1,4 @@
+-- SPDX-License-Identifier: Apache-2.0 OR MIT
 use Rattle.cr_words.proofs.ServeLaws.{attached_taken, attached_bad_workers, attached_bad_connections}
 use Rattle.cr_words.proofs.laws.law_serve_attached.Goals as goal
 

@@ -1,3 +1,4 @@
+-- SPDX-License-Identifier: Apache-2.0 OR MIT
 use Rattle.std.proofs.Common.{◌∙◌}
 use Rattle.cr_words.proofs.Numbers.{reads}
 use Rattle.cr_words.proofs.read.number_of.Goals as goal

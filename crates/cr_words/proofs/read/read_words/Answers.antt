@@ -1,3 +1,4 @@
+-- SPDX-License-Identifier: Apache-2.0 OR MIT
 use Rattle.std.proofs.Common.{◌∙◌, map, string_bytes, Global}
 use Rattle.cr_words.proofs.Simple.{taken_from, refused_from, passes_from}
 use Rattle.cr_words.proofs.Named.{Answered, answered}

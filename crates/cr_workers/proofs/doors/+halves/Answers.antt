@@ -1,3 +1,4 @@
+-- SPDX-License-Identifier: Apache-2.0 OR MIT
 use borrow.Author.Rules.{rules}
 use denote.Param
 use denote.Param.Send.{IsSend, IsSync, sendable}

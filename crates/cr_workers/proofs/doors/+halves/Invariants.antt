@@ -1,3 +1,4 @@
+-- SPDX-License-Identifier: Apache-2.0 OR MIT
 use Rattle.std.proofs.Common.{◌+◌, ◌*◌, length}
 use Rattle.cr_workers.proofs.doors.+halves.Given as goal
 

@@ -1,3 +1,4 @@
+-- SPDX-License-Identifier: Apache-2.0 OR MIT
 use Rattle.cr_workers.proofs.Lists.{total-cut}
 use Rattle.cr_workers.proofs.doors.halve.Goals as goal
 

@@ -1,3 +1,4 @@
+-- SPDX-License-Identifier: Apache-2.0 OR MIT
 use Rattle.std.proofs.Common.{rules, ◌≡◌, length}
 use Rattle.cr_session.specs.Tries.{tries_of}
 use Rattle.cr_workers.specs.Connections.{streams_of}

@@ -1,3 +1,4 @@
+-- SPDX-License-Identifier: Apache-2.0 OR MIT
 use Rattle.std.proofs.Common.{[], map, refl, ap, subst}
 use Rattle.cr_lock.specs.Closing.{Closes}
 use Rattle.cr_book.specs.Seen.{SeenBook}

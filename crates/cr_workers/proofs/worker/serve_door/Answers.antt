@@ -1,3 +1,4 @@
+-- SPDX-License-Identifier: Apache-2.0 OR MIT
 use Rattle.std.proofs.Common.{[], ◌∷◌, ◌*◌, Bool, sym, subst}
 use Rattle.cr_session.specs.Passing.{KnownPass, StaysPass}
 use Rattle.cr_session.specs.Tries.{tries_of}

@@ -1,3 +1,4 @@
+-- SPDX-License-Identifier: Apache-2.0 OR MIT
 use Rattle.std.proofs.Common.{◌∙◌, refl, arith}
 use Rattle.cr_session.specs.Serving.{world_of}
 use Rattle.cr_session.specs.Tries.{tries_of}

@@ -1,3 +1,4 @@
+-- SPDX-License-Identifier: Apache-2.0 OR MIT
 use Rattle.std.proofs.Common.{◌+◌, ◌*◌}
 use Rattle.tests_of_ports.proofs.locks.+crowd.Given as goal
 

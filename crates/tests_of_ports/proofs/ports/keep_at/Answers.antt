@@ -1,3 +1,4 @@
+-- SPDX-License-Identifier: Apache-2.0 OR MIT
 use Rattle.std.proofs.Common.{List, Bool, subst, sym}
 use Rattle.tests_of_ports.proofs.ports.keep_at.Goals as goal
 

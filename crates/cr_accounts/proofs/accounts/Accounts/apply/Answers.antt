@@ -1,3 +1,4 @@
+-- SPDX-License-Identifier: Apache-2.0 OR MIT
 use Rattle.std.proofs.Common.{arith, ◌∙◌, ◌<◌, ap, length}
 use Rattle.cr_base.specs.Accounts.{with_role}
 use Rattle.cr_base.specs.declared.entry.Entry.TheVariants.{Registered, Named, Dismissed}

@@ -1,3 +1,4 @@
+-- SPDX-License-Identifier: Apache-2.0 OR MIT
 use Rattle.std.proofs.Common.{◌≡◌, ◌+◌, ◌++◌, length, drop}
 use Rattle.cr_base.specs.Accounts.{lines_of, lines_from}
 use Rattle.cr_accounts.proofs.accounts.Accounts.lines.Given as goal

@@ -1,3 +1,4 @@
+-- SPDX-License-Identifier: Apache-2.0 OR MIT
 use Rattle.std.proofs.Common.{ℕ, List, get_or, length, ◌≡◌, ◌≤◌, ◌<◌, ◌∙◌, ap, subst, arith}
 use Rattle.cr_base.specs.declared.entry.Account.{Account}
 use Rattle.cr_accounts.specs.Seen.{SeenAccounts}

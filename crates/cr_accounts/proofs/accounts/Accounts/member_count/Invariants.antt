@@ -1,3 +1,4 @@
+-- SPDX-License-Identifier: Apache-2.0 OR MIT
 use Rattle.std.proofs.Common.{◌≡◌, ◌≤◌, ◌+◌, drop}
 use Rattle.cr_accounts.proofs.MemberLaws.{members_from}
 use Rattle.cr_accounts.proofs.accounts.Accounts.member_count.Given as goal

@@ -1,3 +1,4 @@
+-- SPDX-License-Identifier: Apache-2.0 OR MIT
 use Rattle.std.proofs.Common.{◌≡◌, ◌∙◌, List, ap, sym, subst}
 use Rattle.cr_base.specs.declared.entry.Entry.TheVariants.{Assigned}
 use Rattle.cr_base.specs.declared.filed.Filed.{Filed}

@@ -1,3 +1,4 @@
+-- SPDX-License-Identifier: Apache-2.0 OR MIT
 use Rattle.std.proofs.Common.{arith}
 use Rattle.cr_assign.proofs.EarlierLaws.{labels_in-from}
 use Rattle.cr_assign.proofs.seats.Seats.labels_behind.Goals as goal

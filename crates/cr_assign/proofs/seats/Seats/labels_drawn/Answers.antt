@@ -1,3 +1,4 @@
+-- SPDX-License-Identifier: Apache-2.0 OR MIT
 use Rattle.std.proofs.Common.{ℕ, ◌≤◌, ◌∙◌, length, ap, sym, subst}
 use Rattle.cr_base.specs.Seats.{SeatsState, labels_in}
 use Rattle.cr_kept.proofs.OwnLaws.{own-of}

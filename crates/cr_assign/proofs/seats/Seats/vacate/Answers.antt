@@ -1,3 +1,4 @@
+-- SPDX-License-Identifier: Apache-2.0 OR MIT
 use Rattle.std.proofs.Common.{◌≡◌, ◌-◌, ◌<◌, ◌∙◌, List, length, ap, sym, subst, arith}
 use Rattle.cr_base.specs.declared.entry.Entry.TheVariants.{Unassigned}
 use Rattle.cr_base.specs.declared.filed.Filed.{Filed}

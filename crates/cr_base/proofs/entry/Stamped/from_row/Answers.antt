@@ -1,3 +1,4 @@
+-- SPDX-License-Identifier: Apache-2.0 OR MIT
 use Rattle.std.proofs.Common.{◌≡◌, ◌==◌, subst, sym, ◌∙◌, Some, IsTrue}
 use Rattle.cr_base.specs.Shapes.{FitsShape}
 use Rattle.cr_base.specs.Rows.{shape_of, restored}

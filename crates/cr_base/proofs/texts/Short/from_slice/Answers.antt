@@ -1,3 +1,4 @@
+-- SPDX-License-Identifier: Apache-2.0 OR MIT
 use Rattle.std.proofs.Common.{arith, ap, length, length-append, length-drop}
 use Rattle.cr_base.proofs.RowLaws.{zeros_behind}
 use Rattle.cr_base.proofs.texts.Short.from_slice.Goals as goal

@@ -1,3 +1,4 @@
+-- SPDX-License-Identifier: Apache-2.0 OR MIT
 use Rattle.std.proofs.Common.{true, ◌≡◌, Some, Err, ap, sym, subst, refl}
 use Rattle.cr_base.specs.declared.bulk.Broken.TheVariants as broken
 use Rattle.cr_base.specs.declared.reply.Rule.TheVariants as rules

@@ -1,3 +1,4 @@
+-- SPDX-License-Identifier: Apache-2.0 OR MIT
 use Rattle.std.proofs.Common.{arith, ◌≡◌, ◌∙◌, List, length, ap, refl, sym, subst, Some, Err, Result}
 use Rattle.cr_base.specs.declared.bulk.Broken.{Broken}
 use Rattle.cr_base.specs.declared.bulk.BulkRow.{BulkRow}

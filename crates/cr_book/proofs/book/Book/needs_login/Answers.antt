@@ -1,3 +1,4 @@
+-- SPDX-License-Identifier: Apache-2.0 OR MIT
 use Rattle.std.proofs.Common.{◌∙◌, ap, None}
 use Rattle.cr_base.specs.History.{History}
 use Rattle.cr_policy.specs.Judge.{needs_login}

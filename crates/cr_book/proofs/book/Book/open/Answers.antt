@@ -1,3 +1,4 @@
+-- SPDX-License-Identifier: Apache-2.0 OR MIT
 use Rattle.std.proofs.Common.{◌∙◌, ap, subst, sym}
 use Rattle.cr_book.specs.Stopping.{CountsTried, StopsWell}
 use Rattle.cr_book.proofs.StopLaws.{counted_opened, opened_well, spelled_kept}

@@ -1,3 +1,4 @@
+-- SPDX-License-Identifier: Apache-2.0 OR MIT
 use Rattle.std.proofs.Common.{[], ◌≡◌, ◌∙◌, ap, length, subst, IfOk, Some}
 use Rattle.cr_base.specs.History.{History}
 use Rattle.cr_policy.specs.View.{View, sights, view}

@@ -1,3 +1,4 @@
+-- SPDX-License-Identifier: Apache-2.0 OR MIT
 use Rattle.std.proofs.Common.{◌∙◌, ap, subst, sym}
 use Rattle.cr_book.specs.Reading.{IsCutStore}
 use Rattle.cr_book.specs.Seen.{SeenReading}

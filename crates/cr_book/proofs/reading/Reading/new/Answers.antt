@@ -1,3 +1,4 @@
+-- SPDX-License-Identifier: Apache-2.0 OR MIT
 use Rattle.cr_book.proofs.OpeningLaws.{read-nothing}
 use Rattle.cr_book.proofs.reading.Reading.new.Goals as goal
 

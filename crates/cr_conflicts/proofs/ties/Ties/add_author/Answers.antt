@@ -1,3 +1,4 @@
+-- SPDX-License-Identifier: Apache-2.0 OR MIT
 use Rattle.std.proofs.Common.{◌≡◌, ◌<◌, ◌∙◌, List, ◌++◌, ◌∷◌, [], true, get_or, ap, subst, sym}
 use Rattle.cr_base.specs.declared.filed.Filed.{Filed}
 use Rattle.cr_base.specs.declared.pairs.Order.{Order}

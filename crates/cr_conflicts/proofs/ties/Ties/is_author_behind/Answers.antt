@@ -1,3 +1,4 @@
+-- SPDX-License-Identifier: Apache-2.0 OR MIT
 use Rattle.std.proofs.Common.{◌∙◌, Some, sym}
 use Rattle.cr_conflicts.proofs.EarlierLaws.{author-given, author-stays}
 use Rattle.cr_conflicts.proofs.ties.Ties.is_author_behind.Goals as goal

@@ -1,3 +1,4 @@
+-- SPDX-License-Identifier: Apache-2.0 OR MIT
 use Rattle.std.proofs.Common.{◌+◌, arith, length}
 use Rattle.cr_base.specs.Pairs.{users_tied_to}
 use Rattle.cr_base.specs.Ties.{authors_in}

@@ -1,3 +1,4 @@
+-- SPDX-License-Identifier: Apache-2.0 OR MIT
 use Rattle.std.proofs.Common.{◌∙◌, ◌≤◌, ℕ, subst}
 use Rattle.cr_ports.specs.Count.{Rises}
 use Rattle.cr_disks.specs.Held.{DiskState, left_in}

@@ -1,3 +1,4 @@
+-- SPDX-License-Identifier: Apache-2.0 OR MIT
 use Rattle.std.proofs.Common.{◌∙◌, [], ◌∷◌, List, ℕ, ap, arith, length-append, subst, sym}
 use Rattle.cr_disks.specs.Held.{DiskState, Held, after_call, left_in, settled, state_after, states_before}
 use Rattle.cr_disks.specs.declared.mem_disk.DiskCall.{DiskCall}

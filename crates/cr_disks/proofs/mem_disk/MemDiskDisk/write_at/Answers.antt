@@ -1,3 +1,4 @@
+-- SPDX-License-Identifier: Apache-2.0 OR MIT
 use Rattle.std.proofs.Common.{List, ℕ, length, sym, subst}
 use Rattle.cr_disks.specs.Disk.{Torn}
 use Rattle.cr_disks.specs.Held.{DiskState, left_in}

@@ -1,3 +1,4 @@
+-- SPDX-License-Identifier: Apache-2.0 OR MIT
 use Rattle.std.proofs.Common.{ap, arith, length}
 use Rattle.cr_disks.specs.Paths.{Filed}
 use Rattle.cr_disks.proofs.mem_disks.MemDisks.disk_at.Goals as goal

@@ -1,3 +1,4 @@
+-- SPDX-License-Identifier: Apache-2.0 OR MIT
 use Rattle.std.proofs.Common.{◌∙◌, [], ap, inl, subst, List, ℕ}
 use Rattle.cr_disks.specs.Held.{DiskState, left_in, settled}
 use Rattle.cr_disks.specs.Paths.{state_at}

@@ -1,3 +1,4 @@
+-- SPDX-License-Identifier: Apache-2.0 OR MIT
 use Rattle.std.proofs.Common.{◌∙◌, ap, ℕ, List}
 use Rattle.cr_disks.specs.Held.{DiskState, state_of}
 use Rattle.cr_disks.specs.Paths.{bytes_at, state_at}

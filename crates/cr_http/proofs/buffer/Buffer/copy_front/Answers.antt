@@ -1,3 +1,4 @@
+-- SPDX-License-Identifier: Apache-2.0 OR MIT
 use Rattle.std.proofs.Common.{◌≡◌, ◌∙◌, ap, arith, length, take, drop, ◌++◌}
 use Rattle.std.proofs.lemmas.List.{with_items_is}
 use Rattle.cr_http.proofs.Blocks.{over_from}

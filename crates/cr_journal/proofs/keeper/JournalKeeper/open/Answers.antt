@@ -1,3 +1,4 @@
+-- SPDX-License-Identifier: Apache-2.0 OR MIT
 use Rattle.std.proofs.Common.{◌∙◌, ◌++◌, false, List, ap, refl, subst, sym}
 use Rattle.cr_base.specs.declared.row.Row.{Row}
 use Rattle.cr_journal.specs.Grammar.{FitsGroup}

@@ -1,3 +1,4 @@
+-- SPDX-License-Identifier: Apache-2.0 OR MIT
 use Rattle.std.proofs.Common.{sym, subst}
 use Rattle.cr_journal.specs.Keeping.{Journaled, OpensTo}
 use Rattle.cr_journal.proofs.Keeping.{stops_between}

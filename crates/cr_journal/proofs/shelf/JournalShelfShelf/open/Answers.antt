@@ -1,3 +1,4 @@
+-- SPDX-License-Identifier: Apache-2.0 OR MIT
 use Rattle.std.proofs.Common.{◌∙◌, sym}
 use Rattle.cr_journal.proofs.Shelving.{told_before}
 use Rattle.cr_journal.proofs.Stored.{stored_opened}

@@ -1,3 +1,4 @@
+-- SPDX-License-Identifier: Apache-2.0 OR MIT
 use Rattle.cr_journal.proofs.Shelving.{told_after, told_others}
 use Rattle.cr_journal.proofs.shelf.JournalShelfShelf.shut.Goals as goal
 

@@ -1,3 +1,4 @@
+-- SPDX-License-Identifier: Apache-2.0 OR MIT
 use Rattle.std.proofs.Common.{inl, refl}
 use Rattle.cr_journal.specs.Gates.{IsKeptOrOneMore}
 use Rattle.cr_journal.specs.Standing.{doubted}

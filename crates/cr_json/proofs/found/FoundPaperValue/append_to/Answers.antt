@@ -1,3 +1,4 @@
+-- SPDX-License-Identifier: Apache-2.0 OR MIT
 use Rattle.cr_json.specs.Found.{found_paper_members}
 use Rattle.cr_json.specs.Json.{Added}
 use Rattle.cr_json.proofs.Objects.{◌then◌, closed}

@@ -1,3 +1,4 @@
+-- SPDX-License-Identifier: Apache-2.0 OR MIT
 use Rattle.cr_json.proofs.Objects.{added_one}
 use Rattle.cr_json.proofs.object.Object.list.Goals as goal
 

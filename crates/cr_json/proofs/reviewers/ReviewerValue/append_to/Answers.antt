@@ -1,3 +1,4 @@
+-- SPDX-License-Identifier: Apache-2.0 OR MIT
 use Rattle.cr_json.specs.Reviewers.{reviewer_members}
 use Rattle.cr_json.proofs.Objects.{◌then◌, closed}
 use Rattle.cr_json.proofs.reviewers.ReviewerValue.append_to.Goals as goal

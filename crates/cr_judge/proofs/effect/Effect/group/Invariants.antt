@@ -1,3 +1,4 @@
+-- SPDX-License-Identifier: Apache-2.0 OR MIT
 use Rattle.std.proofs.Common.{◌≡◌, ◌≤◌, ◌+◌, ◌∷◌, length, take}
 use Rattle.std.specs.Prelude.{vec_capacity}
 use Rattle.cr_base.specs.Drawn.{grouped}

@@ -1,3 +1,4 @@
+-- SPDX-License-Identifier: Apache-2.0 OR MIT
 use Rattle.std.proofs.Common.{ℕ, ◌+◌, ◌<◌, ◌≤◌, ◌∙◌, get_or, ap, sym, subst, arith, length, set, [], ◌∷◌, ◌++◌}
 use Rattle.cr_base.specs.Filed.{filed, with_filed}
 use Rattle.cr_rooms.specs.Rooms.{IsOneLess}

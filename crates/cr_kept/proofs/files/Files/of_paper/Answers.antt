@@ -1,3 +1,4 @@
+-- SPDX-License-Identifier: Apache-2.0 OR MIT
 use Rattle.std.proofs.Common.{◌≡◌, ◌∙◌, List, length, ap, sym, subst}
 use Rattle.cr_base.specs.Filed.{filed_of}
 use Rattle.cr_base.specs.Steps.{Takes}

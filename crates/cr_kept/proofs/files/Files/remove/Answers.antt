@@ -1,3 +1,4 @@
+-- SPDX-License-Identifier: Apache-2.0 OR MIT
 use Rattle.std.proofs.Common.{rules, ◌<◌, ◌≤◌, ◌∙◌, List, [], length, set, refl, ap, sym, subst, arith}
 use Rattle.std.specs.List.{remove}
 use Rattle.cr_base.specs.Filed.{filed_of}

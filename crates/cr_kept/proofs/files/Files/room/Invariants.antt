@@ -1,3 +1,4 @@
+-- SPDX-License-Identifier: Apache-2.0 OR MIT
 use Rattle.std.proofs.Common.{◌≡◌, take}
 use Rattle.cr_rooms.specs.Rooms.{HasRoom, IsNoLess}
 use Rattle.cr_kept.proofs.files.Files.room.Given as goal

@@ -1,3 +1,4 @@
+-- SPDX-License-Identifier: Apache-2.0 OR MIT
 use Rattle.std.proofs.Common.{◌≤◌, ◌∙◌, get_or, ap, subst, arith}
 use Rattle.cr_kept.specs.Seen.{SeenFiles, SeenDrawer}
 use Rattle.cr_kept.specs.Drawers.{rooms_of}

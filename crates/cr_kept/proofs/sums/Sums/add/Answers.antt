@@ -1,3 +1,4 @@
+-- SPDX-License-Identifier: Apache-2.0 OR MIT
 use Rattle.std.proofs.Common.{ℕ, ◌∙◌, ap, refl, arith}
 use Rattle.std.proofs.lemmas.List.{get_or_default}
 use Rattle.cr_base.specs.Papers.{with_more}

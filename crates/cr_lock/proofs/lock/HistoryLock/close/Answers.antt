@@ -1,3 +1,4 @@
+-- SPDX-License-Identifier: Apache-2.0 OR MIT
 use Rattle.std.proofs.Common.{refl, ap, sym, subst, ◌∙◌, ◌≡◌, Some}
 use mathlib.Core.Option.{some-injective}
 use Rattle.std.specs.Prelude.{IsSome}

@@ -1,3 +1,4 @@
+-- SPDX-License-Identifier: Apache-2.0 OR MIT
 use Rattle.std.proofs.Common.{arith, ap, sym, ◌∙◌}
 use Rattle.cr_lock.proofs.Seats.{joins, settles}
 use Rattle.cr_lock.proofs.lock.HistoryLock.join.Goals as goal

@@ -1,3 +1,4 @@
+-- SPDX-License-Identifier: Apache-2.0 OR MIT
 use Rattle.std.proofs.Common.{rules, refl, arith, ap, subst, ◌∙◌, ◌+◌}
 use Rattle.std.specs.Fn.{FnOnceReturnsAtMut}
 use mathlib.Core.List.{IsPrefix}

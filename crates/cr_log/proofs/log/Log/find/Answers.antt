@@ -1,3 +1,4 @@
+-- SPDX-License-Identifier: Apache-2.0 OR MIT
 use Rattle.std.proofs.Common.{◌∙◌, ap, arith, refl}
 use Rattle.cr_log.specs.declared.given.GivenNumber.{GivenNumber}
 use Rattle.cr_log.specs.Seen.{SeenLog}

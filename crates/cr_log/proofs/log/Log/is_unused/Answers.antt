@@ -1,3 +1,4 @@
+-- SPDX-License-Identifier: Apache-2.0 OR MIT
 use Rattle.cr_log.proofs.IndexLaws.{none-kept}
 use Rattle.cr_log.proofs.log.Log.is_unused.Goals as goal
 

@@ -1,3 +1,4 @@
+-- SPDX-License-Identifier: Apache-2.0 OR MIT
 use Rattle.std.proofs.Common.{◌≡◌, arith, subst, map}
 use Rattle.cr_ports.specs.Doors.{shares_below}
 use Rattle.cr_net.specs.Doors.{new_door}

@@ -1,3 +1,4 @@
+-- SPDX-License-Identifier: Apache-2.0 OR MIT
 use Rattle.std.proofs.Common.{◌≡◌, sym, refl, subst, List, IsFalse, All}
 use Rattle.cr_ports.specs.Doors.{shares}
 use Rattle.cr_net.specs.Doors.{DoorSeen}

@@ -1,3 +1,4 @@
+-- SPDX-License-Identifier: Apache-2.0 OR MIT
 use Rattle.std.proofs.Common.{take, sum_by}
 use Rattle.cr_ports.specs.Count.{Gains}
 use Rattle.cr_net.specs.Doors.{DoorSeen}

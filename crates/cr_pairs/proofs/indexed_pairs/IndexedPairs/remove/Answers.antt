@@ -1,3 +1,4 @@
+-- SPDX-License-Identifier: Apache-2.0 OR MIT
 use Rattle.cr_pairs.proofs.Indexes.{indexed-without}
 use Rattle.cr_pairs.proofs.indexed_pairs.IndexedPairs.remove.Goals as goal
 

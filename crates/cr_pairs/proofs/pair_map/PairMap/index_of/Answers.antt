@@ -1,3 +1,4 @@
+-- SPDX-License-Identifier: Apache-2.0 OR MIT
 use Rattle.std.proofs.Common.{◌+◌, ◌-◌, ◌/◌, length, subst, arith}
 use Rattle.cr_base.specs.Pairs.{IsAscending}
 use Rattle.cr_pairs.specs.Seen.{SeenPairs}

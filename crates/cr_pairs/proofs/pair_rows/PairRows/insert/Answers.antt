@@ -1,3 +1,4 @@
+-- SPDX-License-Identifier: Apache-2.0 OR MIT
 use Rattle.std.proofs.Common.{ℕ, ◌<◌, ◌≤◌, ◌+◌, ◌∙◌, length, get_or, set, ap, sym, subst}
 use Rattle.cr_base.specs.Pairs.{major, with_tie}
 use Rattle.cr_rooms.specs.Rooms.{IsOneLess}

@@ -1,3 +1,4 @@
+-- SPDX-License-Identifier: Apache-2.0 OR MIT
 use Rattle.std.proofs.Common.{◌≡◌, ◌<◌, ◌≤◌, ◌+◌, ◌∙◌, length, set, inr, ap, sym, subst, arith}
 use Rattle.cr_base.specs.Pairs.{major, without_pair}
 use Rattle.cr_rooms.specs.Rooms.{IsNoLess}

@@ -1,3 +1,4 @@
+-- SPDX-License-Identifier: Apache-2.0 OR MIT
 use Rattle.std.proofs.Common.{◌≡◌, take, map}
 use Rattle.cr_base.specs.Pairs.{major}
 use Rattle.cr_rooms.specs.Rooms.{HasRoom, IsNoLess}

@@ -1,3 +1,4 @@
+-- SPDX-License-Identifier: Apache-2.0 OR MIT
 use Rattle.std.proofs.Common.{◌≤◌, ◌∙◌, get_or, ap, subst, arith}
 use Rattle.cr_rooms.proofs.RoomLaws.{no-less-row, room-of-row}
 use Rattle.cr_pairs.specs.Seen.{SeenPairs}

@@ -1,3 +1,4 @@
+-- SPDX-License-Identifier: Apache-2.0 OR MIT
 use Rattle.cr_papers.proofs.NumberLaws.{has-numbered}
 use Rattle.cr_papers.proofs.papers.Papers.has.Goals as goal
 

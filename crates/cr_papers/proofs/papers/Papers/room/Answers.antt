@@ -1,3 +1,4 @@
+-- SPDX-License-Identifier: Apache-2.0 OR MIT
 use Rattle.std.proofs.Common.{◌-◌, sym, subst, arith}
 use Rattle.std.specs.Vec.{vec_capacity, vec_len}
 use Rattle.cr_papers.specs.Room.{PapersHaveRoom}

@@ -1,3 +1,4 @@
+-- SPDX-License-Identifier: Apache-2.0 OR MIT
 use Rattle.std.proofs.Common.{◌∙◌, ◌-◌, sym, ap, eqb, arith}
 use Rattle.std.specs.Prelude.{find}
 use Rattle.cr_base.specs.Filed.{filed_of}

@@ -1,3 +1,4 @@
+-- SPDX-License-Identifier: Apache-2.0 OR MIT
 use Rattle.std.proofs.Common.{◌∙◌, ap, inl, ℕ, List, Some}
 use Rattle.cr_base.specs.declared.row.Row.{Row}
 use Rattle.cr_ports.proofs.Shelving.{cond_apart, cond_here}

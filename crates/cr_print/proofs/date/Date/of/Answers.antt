@@ -1,3 +1,4 @@
+-- SPDX-License-Identifier: Apache-2.0 OR MIT
 use Rattle.std.proofs.Common.{◌≡◌, ◌∙◌, rules}
 use Rattle.httpdate.specs.Date.{unix_secs}
 use Rattle.cr_base.specs.Moments.{IsMoment}

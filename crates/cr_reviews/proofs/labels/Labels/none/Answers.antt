@@ -1,3 +1,4 @@
+-- SPDX-License-Identifier: Apache-2.0 OR MIT
 use Rattle.std.proofs.Common.{false}
 use Rattle.cr_kept.proofs.SumLaws.{get-replicate}
 use Rattle.cr_reviews.proofs.labels.Labels.none.Goals as goal

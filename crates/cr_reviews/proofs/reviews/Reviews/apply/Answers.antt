@@ -1,3 +1,4 @@
+-- SPDX-License-Identifier: Apache-2.0 OR MIT
 use Rattle.std.proofs.Common.{◌∷◌, ap, sym, subst}
 use Rattle.cr_rooms.proofs.GroupRooms.{room-for-rest}
 use Rattle.cr_reviews.specs.Room.{reviews_of, paper_reviewed, ReviewsHaveRoom}

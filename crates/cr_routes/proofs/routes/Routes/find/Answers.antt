@@ -1,3 +1,4 @@
+-- SPDX-License-Identifier: Apache-2.0 OR MIT
 use Rattle.cr_routes.proofs.Resources.{found_is, none_is, texts_are}
 use Rattle.cr_routes.proofs.routes.Routes.find.Goals as goal
 

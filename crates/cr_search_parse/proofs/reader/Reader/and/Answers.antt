@@ -1,3 +1,4 @@
+-- SPDX-License-Identifier: Apache-2.0 OR MIT
 use Rattle.std.proofs.Common.{◌∙◌, ap, refl}
 use Rattle.cr_search_parse.specs.Reading.{wanted, after_and}
 use Rattle.cr_search_parse.specs.Standing.{next_told}

@@ -1,3 +1,4 @@
+-- SPDX-License-Identifier: Apache-2.0 OR MIT
 use Rattle.std.proofs.Common.{◌-◌, ◌+◌, ◌∙◌, ap, ap₂, sym, refl, arith}
 use Rattle.cr_base.specs.declared.search.Step.TheVariants as step
 use Rattle.cr_search_parse.specs.Reading.{after_close, closed, level_steps}

@@ -1,3 +1,4 @@
+-- SPDX-License-Identifier: Apache-2.0 OR MIT
 use Rattle.std.proofs.Common.{◌≡◌, List, [], ◌∷◌, length, ◌∙◌, sym, refl, arith, rules}
 use Rattle.cr_search_parse.proofs.FollowLaws.{end_steps, no-level_left}
 use Rattle.cr_search_parse.proofs.reader.Reader.finish.Goals as goal

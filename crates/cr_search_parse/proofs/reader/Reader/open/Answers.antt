@@ -1,3 +1,4 @@
+-- SPDX-License-Identifier: Apache-2.0 OR MIT
 use Rattle.std.proofs.Common.{◌+◌, refl, arith}
 use Rattle.cr_search_parse.specs.Reading.{after_open}
 use Rattle.cr_search_parse.specs.Standing.{Stands}

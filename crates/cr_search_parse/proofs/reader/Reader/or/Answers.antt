@@ -1,3 +1,4 @@
+-- SPDX-License-Identifier: Apache-2.0 OR MIT
 use Rattle.std.proofs.Common.{ℕ, [], ◌∙◌, ap, refl}
 use Rattle.cr_search_parse.specs.Reading.{State, wanted, after_or, level_steps}
 use Rattle.cr_search_parse.specs.Standing.{Stands, next_told}

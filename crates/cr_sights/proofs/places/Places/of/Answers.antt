@@ -1,3 +1,4 @@
+-- SPDX-License-Identifier: Apache-2.0 OR MIT
 use Rattle.cr_sights.proofs.PlaceLaws.{noted-here}
 use Rattle.cr_sights.proofs.places.Places.of.Goals as goal
 

@@ -1,3 +1,4 @@
+-- SPDX-License-Identifier: Apache-2.0 OR MIT
 use Rattle.std.proofs.Common.{length, take, ◌-◌}
 use Rattle.cr_sights.specs.Series.{AreLast}
 use Rattle.cr_sights.proofs.places.Places.of.Given as goal

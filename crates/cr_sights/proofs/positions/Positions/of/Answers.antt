@@ -1,3 +1,4 @@
+-- SPDX-License-Identifier: Apache-2.0 OR MIT
 use Rattle.std.proofs.Common.{◌∙◌, ℕ, ap, subst, take}
 use Rattle.cr_base.specs.History.{opens_discussion, opens_response}
 use Rattle.cr_sights.specs.Series.{AreLast}

@@ -1,3 +1,4 @@
+-- SPDX-License-Identifier: Apache-2.0 OR MIT
 use Rattle.std.proofs.Common.{refl}
 use Rattle.cr_sights.proofs.PlaceLaws.{noted-here}
 use Rattle.cr_sights.proofs.PositionLaws.{stands_so}

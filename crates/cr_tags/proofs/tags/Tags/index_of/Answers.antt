@@ -1,3 +1,4 @@
+-- SPDX-License-Identifier: Apache-2.0 OR MIT
 use Rattle.std.proofs.Common.{rules, ◌≡◌}
 use Rattle.std.proofs.lemmas.Fn.{always_returns_same}
 use Rattle.cr_base.specs.declared.tag.SetTag.{SetTag}

@@ -1,3 +1,4 @@
+-- SPDX-License-Identifier: Apache-2.0 OR MIT
 use Rattle.std.proofs.Common.{false, ◌∙◌, sym, ap, subst}
 use Rattle.cr_base.specs.declared.tag.SetTag.{SetTag}
 use Rattle.cr_base.specs.Filed.{filed, filed_of}

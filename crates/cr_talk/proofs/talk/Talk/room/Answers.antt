@@ -1,3 +1,4 @@
+-- SPDX-License-Identifier: Apache-2.0 OR MIT
 use Rattle.std.proofs.Common.{sym, subst, arith}
 use Rattle.cr_rooms.proofs.GroupRooms.{room-for-kept}
 use Rattle.cr_kept.specs.Beside.{rooms_beside}

@@ -1,3 +1,4 @@
+-- SPDX-License-Identifier: Apache-2.0 OR MIT
 use Rattle.std.proofs.Common.{◌≡◌, ◌++◌, drop}
 use Rattle.cr_base.specs.Papers.{paper_numbers}
 use Rattle.cr_view.specs.Accepted.{accepted_of}

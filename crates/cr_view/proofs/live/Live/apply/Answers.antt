@@ -1,3 +1,4 @@
+-- SPDX-License-Identifier: Apache-2.0 OR MIT
 use Rattle.std.proofs.Common.{◌≡◌, ◌∷◌, true, subst, sym, arith}
 use Rattle.cr_base.specs.Invites.{InvitesState, invites_after}
 use Rattle.cr_base.specs.Papers.{PapersState, paper_count, PapersFit}

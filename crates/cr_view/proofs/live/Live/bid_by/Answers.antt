@@ -1,3 +1,4 @@
+-- SPDX-License-Identifier: Apache-2.0 OR MIT
 use Rattle.std.proofs.Common.{◌∙◌}
 use Rattle.cr_view.proofs.PlanLaws.{bid-is}
 use Rattle.cr_view.proofs.live.Live.bid_by.Goals as goal

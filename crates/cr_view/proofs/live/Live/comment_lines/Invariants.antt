@@ -1,3 +1,4 @@
+-- SPDX-License-Identifier: Apache-2.0 OR MIT
 use Rattle.std.proofs.Common.{◌≡◌, ◌++◌, drop}
 use Rattle.cr_view.specs.Comments.{lines_told}
 use Rattle.cr_view.proofs.live.Live.comment_lines.Given as goal

@@ -1,3 +1,4 @@
+-- SPDX-License-Identifier: Apache-2.0 OR MIT
 use Rattle.cr_view.proofs.ContentLaws.{content-refused, content-lent, content-missing}
 use Rattle.cr_view.proofs.live.Live.content_told.Goals as goal
 

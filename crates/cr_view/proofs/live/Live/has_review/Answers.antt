@@ -1,3 +1,4 @@
+-- SPDX-License-Identifier: Apache-2.0 OR MIT
 use Rattle.std.proofs.Common.{ℕ, Bool, false, ◌≡◌, ◌&&◌, ◌||◌, ◌∙◌, ap, sym}
 use Rattle.std.specs.Prelude.{is_some, not}
 use Rattle.cr_base.specs.declared.standing.Standing.{Standing}

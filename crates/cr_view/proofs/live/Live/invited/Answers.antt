@@ -1,3 +1,4 @@
+-- SPDX-License-Identifier: Apache-2.0 OR MIT
 use Rattle.std.proofs.Common.{ℕ, ◌∙◌, Some, ap, subst, sym}
 use Rattle.cr_base.specs.Accounts.{role_in}
 use Rattle.cr_base.specs.Lists.{IsRising}

@@ -1,3 +1,4 @@
+-- SPDX-License-Identifier: Apache-2.0 OR MIT
 use Rattle.std.proofs.Common.{◌≡◌, Some, ◌∙◌, ap}
 use Rattle.std.specs.Prelude.{is_some}
 use Rattle.cr_base.specs.Seats.{ordinal_in}

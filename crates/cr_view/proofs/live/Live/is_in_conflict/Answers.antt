@@ -1,3 +1,4 @@
+-- SPDX-License-Identifier: Apache-2.0 OR MIT
 use Rattle.std.proofs.Common.{ℕ, Option, Some, ◌∙◌, ap, sym}
 use Rattle.cr_base.specs.Ties.{is_conflicted_in}
 use Rattle.cr_view.specs.Seen.{SeenTables}

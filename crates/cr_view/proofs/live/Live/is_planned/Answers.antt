@@ -1,3 +1,4 @@
+-- SPDX-License-Identifier: Apache-2.0 OR MIT
 use Rattle.std.proofs.Common.{ℕ, ◌≡◌, ◌+◌, ◌&&◌, ◌∙◌, ap}
 use Rattle.std.specs.Prelude.{nat_le, not}
 use Rattle.cr_base.specs.Papers.{is_withdrawn_at}

@@ -1,3 +1,4 @@
+-- SPDX-License-Identifier: Apache-2.0 OR MIT
 use Rattle.cr_base.specs.declared.command.Query.TheVariants as queries
 use Rattle.cr_base.specs.Sources.{standing_at}
 use Rattle.cr_view.proofs.AskingLaws.{may_not, may_pass}

@@ -1,3 +1,4 @@
+-- SPDX-License-Identifier: Apache-2.0 OR MIT
 use Rattle.std.proofs.Common.{ℕ, List, Some, ◌∙◌, ap, subst}
 use Rattle.std.specs.Prelude.{filter, is_some, map, not}
 use Rattle.cr_base.specs.declared.pairs.Tie.{Tie}

@@ -1,3 +1,4 @@
+-- SPDX-License-Identifier: Apache-2.0 OR MIT
 use Rattle.cr_view.proofs.NobodyLaws.{nobody-seat}
 use Rattle.cr_view.proofs.live.Live.ordinal_of.Goals as goal
 

@@ -1,3 +1,4 @@
+-- SPDX-License-Identifier: Apache-2.0 OR MIT
 use Rattle.std.proofs.Common.{ℕ, Some, ◌≡◌, ◌++◌, drop}
 use Rattle.std.specs.Prelude.{map, filter, not}
 use Rattle.cr_base.specs.declared.pairs.Tie.{Tie}

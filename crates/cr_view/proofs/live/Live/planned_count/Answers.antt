@@ -1,3 +1,4 @@
+-- SPDX-License-Identifier: Apache-2.0 OR MIT
 use Rattle.std.proofs.Common.{ℕ, Bool, List, length, ◌<◌, ◌≤◌, ◌∙◌, ap, subst, sym, arith, ◌+◌}
 use Rattle.cr_base.specs.Papers.{paper_count}
 use Rattle.cr_view.specs.Plans.{is_planned_in, one}

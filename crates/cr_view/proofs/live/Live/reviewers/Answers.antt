@@ -1,3 +1,4 @@
+-- SPDX-License-Identifier: Apache-2.0 OR MIT
 use Rattle.std.proofs.Common.{ℕ, Bool, List, ◌++◌, ◌∙◌, Option, ap}
 use Rattle.cr_base.specs.declared.page.Reviewer.{Reviewer}
 use Rattle.cr_base.specs.declared.pairs.Tie.{Tie}

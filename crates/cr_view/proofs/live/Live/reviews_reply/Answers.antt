@@ -1,3 +1,4 @@
+-- SPDX-License-Identifier: Apache-2.0 OR MIT
 use Rattle.std.proofs.Common.{Ok, Err}
 use Rattle.cr_view.proofs.AnswerLaws.{reviews-answered}
 use Rattle.cr_view.proofs.live.Live.reviews_reply.Goals as goal

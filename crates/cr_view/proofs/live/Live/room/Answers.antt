@@ -1,3 +1,4 @@
+-- SPDX-License-Identifier: Apache-2.0 OR MIT
 use Rattle.std.proofs.Common.{sym, subst}
 use Rattle.cr_view.specs.Room.{RoomFor}
 use Rattle.cr_view.specs.Seen.{SeenTables}

@@ -1,3 +1,4 @@
+-- SPDX-License-Identifier: Apache-2.0 OR MIT
 use Rattle.std.proofs.Common.{ℕ, List, ◌≡◌, ◌≤◌, ◌+◌, Option, Some, None, ◌++◌, ◌∙◌, ap, length, refl, arith}
 use Rattle.cr_base.specs.Labels.{by_labels}
 use Rattle.cr_base.specs.Lists.{listed, total}

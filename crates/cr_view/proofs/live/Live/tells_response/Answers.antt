@@ -1,3 +1,4 @@
+-- SPDX-License-Identifier: Apache-2.0 OR MIT
 use Rattle.std.proofs.Common.{ℕ, Bool, Result, Some, None, ◌==◌, ◌∙◌, ap, []}
 use Rattle.std.specs.Prelude.{is_ok, is_some, unwrap_or}
 use Rattle.std.specs.List.{list_any}

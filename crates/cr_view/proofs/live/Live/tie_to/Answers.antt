@@ -1,3 +1,4 @@
+-- SPDX-License-Identifier: Apache-2.0 OR MIT
 use Rattle.std.proofs.Common.{Some}
 use Rattle.cr_view.proofs.NobodyLaws.{nobody-author, nobody-conflicted, nobody-external, nobody-seat}
 use Rattle.cr_view.proofs.live.Live.tie_to.Goals as goal
