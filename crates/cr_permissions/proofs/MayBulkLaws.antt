@@ -41,15 +41,13 @@ use Rattle.cr_policy.proofs.AddedLaws.{adds_as_said, user-same}
 use Rattle.cr_policy.proofs.BulkLaws.{row_seen, seen, IsReady, RowCalls, row-calls, row-given, RowAdds, row-adds}
 use Rattle.cr_policy.proofs.BulkLaws.{next}
 use Rattle.cr_policy.proofs.BulkLaws.{next-ready, next-seen}
-use Rattle.cr_policy.proofs.FactAgreement.{facts_in_view-tables}
 use Rattle.cr_policy.proofs.LegalLaws.{Legal-accepted, legal_invariants, given-bounded}
-use Rattle.cr_policy.proofs.JudgedByHistory.{facts-same, told, forms}
 use Rattle.cr_permissions.specs.MayBulk.{RowsAsSaid, is_of_herself, may_row, with_row, may_rows, may_bulk}
 use Rattle.cr_permissions.specs.MayBulk.{BulksAsSaid}
 use Rattle.cr_permissions.proofs.KeptStamps.{ready-unnumbered, seen-unnumbered}
 use Rattle.cr_permissions.proofs.MayDoLaws.{permissions_as_said}
 use Rattle.cr_permissions.proofs.SentenceLaws.{both-said, none_broken, judged-none_broken, chair-same}
-use Rattle.cr_permissions.proofs.SentenceLaws.{in_committee-same}
+use Rattle.cr_permissions.proofs.SentenceLaws.{in_committee-same, facts-seen}
 
 -- ---- what rows ask for
 
@@ -111,10 +109,6 @@ module _ (user moment : ℕ) where
   abbrev seen_shown : History → Shown
   seen_shown H = shown_in_view u (view u H)
 
-  -- the facts of the caller's view are those of the history
-  facts-seen : (H : History) → Legal H → seen_facts H ≡ facts_of u H
-  facts-seen H legal = facts_in_view-tables u H (told u H legal) (forms u H legal) ∙ sym (facts-same u H legal)
-
   herself-same : (H : History) → Legal H → (command : Command)
       → turns_own_conflict user (resolve (facts_of u H).accounts command) ≡ is_of_herself user H command
   herself-same H legal (commands.SetConflict paper name on) =
@@ -142,7 +136,7 @@ module _ (user moment : ℕ) where
           ∙
           (λ i.
           not
-          ((ap (λ (facts : Facts). turns_own_conflict user (resolve facts.accounts command)) (facts-seen H legal)
+          ((ap (λ (facts : Facts). turns_own_conflict user (resolve facts.accounts command)) (facts-seen u H legal)
           ∙ herself-same H legal command) i)
           && permissions_as_said H (call_by stamp command) legal i)
 
@@ -224,7 +218,7 @@ module _ (stamp : Stamp) (H : History) (rows : List BulkRow) (legal : Legal H) (
   bulk-ok =
       behind (judged (bulk_checks (facts.standing None)) tt)
       ∙ (λ i. (judged-none_broken (bulk_checks (facts.standing None)) tt
-      ∙ ap (λ (facts : Facts). none_broken (bulk_checks (facts.standing None))) (facts-seen user' stamp.at H legal)
+      ∙ ap (λ (facts : Facts). none_broken (bulk_checks (facts.standing None))) (facts-seen (Some user') H legal)
       ∙ both-said (is_chair (role_of (Some user') H)) (chairs user' H) (committee_works (phase_of H)) (committee_at_work H)
       (chair-same (role_of (Some user') H)) (in_committee-same (phase_of H))) i && rows-may i)
       ∙ together (chairs user' H) (committee_at_work H) (may_rows (unnumbered stamp) H rows)

@@ -24,8 +24,7 @@ use Rattle.cr_base.specs.HistoryFacts.{phase_of, role_of, is_conflicted, is_with
 use Rattle.cr_base.specs.HistoryFacts.{authors_of, uploads_of, is_accepted, is_conflict_on, is_external, is_invited}
 use Rattle.cr_base.specs.HistoryFacts.{had_response_of, response_of}
 use Rattle.cr_base.specs.Plans.{PlanPair, planned_papers, planned_members, best_plan, plan_reply}
-use Rattle.cr_base.specs.Sources.{Facts, Shown, facts_of_tables, shown_in_tables}
-use Rattle.cr_base.specs.Tables.{tables_of}
+use Rattle.cr_base.specs.Sources.{Facts, Shown}
 use Rattle.cr_base.specs.Phases.{committee_works, members_see_papers, chairs_see_reviewers, reviewers_read_own}
 use Rattle.cr_base.specs.Phases.{externals_read_own, members_read_reviews, members_read_comments}
 use Rattle.cr_base.specs.Phases.{members_read_responses, members_read_decisions, authors_read_reviews}
@@ -41,18 +40,19 @@ use Rattle.cr_base.specs.declared.words.Decision.TheVariants.{Accept, Reject}
 use Rattle.cr_history.proofs.RuleFacts.{facts_of}
 use Rattle.cr_policy.specs.Legal.{Legal}
 use Rattle.cr_policy.specs.View.{view}
+use Rattle.cr_policy.specs.ViewFacts.{facts_in_view, shown_in_view}
 use Rattle.cr_policy.specs.Judge.{answer, needs_login}
 use Rattle.cr_policy.specs.Sentences.{now, chairs, committee_at_work, before_bidding, is_over, from_discussion}
 use Rattle.cr_policy.specs.Sentences.{is_members, is_chairs, is_paper, accepts, is_in, is_public, before_discussion}
 use Rattle.cr_policy.specs.Sentences.{from_reviewing, has_part, wrote, of_some}
 use Rattle.cr_policy.proofs.JudgedByHistory.{shown_of, facts-same}
-use Rattle.cr_policy.proofs.LegalLaws.{Legal-answer, Legal-needs_login}
+use Rattle.cr_policy.proofs.LegalLaws.{Legal-needs_login}
 use Rattle.cr_permissions.specs.MayRead.{has_version, may_read_reviews, may_read_comments, may_read_response}
 use Rattle.cr_permissions.specs.MayRead.{may_report}
 use Rattle.cr_permissions.specs.MayRead.{may_plan, reads_content, is_told, is_answered_to, ReadingAsSaid}
 use Rattle.cr_permissions.proofs.SentenceLaws.{both-said, none_broken, judged-both, member-same, chair-same}
 use Rattle.cr_permissions.proofs.SentenceLaws.{in_committee-same, over-same, discussed-same, reviewed-same, own-same}
-use Rattle.cr_permissions.proofs.SentenceLaws.{closed-same, begun-same, answered-as, answered-checks}
+use Rattle.cr_permissions.proofs.SentenceLaws.{closed-same, begun-same, answered-as, answered-checks, facts-seen}
 
 -- ---- words
 
@@ -285,16 +285,15 @@ module _ (w : ℕ) (H : History) (legal : Legal H) where
   plans-read : (per_paper load : ℕ) → is_told (answer u (view u H) (queries.Plan per_paper load))
       ≡ may_plan w H per_paper load
   plans-read per_paper load =
-      let facts : Facts = facts_of_tables (tables_of H) u in
-      let shown : Shown = shown_in_tables (tables_of H) in
+      let facts : Facts = facts_in_view u (view u H) in
+      let shown : Shown = shown_in_view u (view u H) in
       let papers : ℕ = length (planned_papers facts shown per_paper) in
       let members : ℕ = length (planned_members facts) in
       let role : role_of u H ≡ (facts.standing None).role =
-      ap (λ (f : Facts). (f.standing None).role) (facts-same u H legal) in
+      ap (λ (f : Facts). (f.standing None).role) (sym (facts-seen u H legal)) in
       let phase : phase_of H ≡ (facts.standing None).phase =
-      ap (λ (f : Facts). (f.standing None).phase) (facts-same u H legal) in
-      ap is_told (Legal-answer u H (queries.Plan per_paper load) legal)
-      ∙ judged-both (plan_asked facts shown per_paper) (plan_reply (best_plan facts shown per_paper load))
+      ap (λ (f : Facts). (f.standing None).phase) (sym (facts-seen u H legal)) in
+      judged-both (plan_asked facts shown per_paper) (plan_reply (best_plan facts shown per_paper load))
       ∙ ap (λ (b : Bool). none_broken (plan_asked facts shown per_paper) && b)
       (told-plan (best_plan facts shown per_paper load))
       ∙ plan-said (is_chair (facts.standing None).role) (chairs w H) (committee_works (facts.standing None).phase)

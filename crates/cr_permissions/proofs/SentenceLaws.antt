@@ -36,11 +36,14 @@ use Rattle.cr_history.proofs.RuleFacts.{facts_of}
 use Rattle.cr_policy.specs.Judge.{judge}
 use Rattle.cr_policy.specs.Legal.{Legal}
 use Rattle.cr_policy.specs.View.{view}
+use Rattle.cr_policy.specs.ViewFacts.{facts_in_view}
 use Rattle.cr_policy.specs.Judge.{answer}
 use Rattle.cr_policy.specs.Sentences.{is_it, comes_behind, meets, lasts_or_comes_in, is_members, is_chairs, is_above}
 use Rattle.cr_policy.specs.Sentences.{of_some, user_named, is_somebody}
+use Rattle.cr_policy.proofs.FactAgreement.{facts_in_view-tables}
 use Rattle.cr_policy.proofs.LegalLaws.{Legal-answer}
 use Rattle.cr_policy.proofs.JudgedByHistory.{shown_of, facts-same, shown-same, judge-history, number-same}
+use Rattle.cr_policy.proofs.JudgedByHistory.{told, forms}
 use Rattle.cr_permissions.specs.MayRead.{is_told}
 
 -- ---- lists of checks
@@ -366,6 +369,10 @@ module _ (u : Option ℕ) (H : History) (legal : Legal H) where
       by false is = ap (λ (b : Bool). not (not b)) (all-there names is) ∙ ap not (sym is) ∙ all_somebody names
 
   -- ---- queries
+
+  -- the facts of the caller's view are those of the history
+  pub facts-seen : facts_in_view u (view u H) ≡ facts_of u H
+  facts-seen = facts_in_view-tables u H (told u H legal) (forms u H legal) ∙ sym (facts-same u H legal)
 
   pub answered-as : (query : Query) → is_told (answer u (view u H) query)
       ≡ is_told (answer_by (facts_of u H) (shown_of H) u query)

@@ -15,8 +15,7 @@ use Rattle.cr_base.specs.History.{History, Upload}
 use Rattle.cr_base.specs.HistoryFacts.{uploads_of, had_response_of, response_of}
 use Rattle.cr_base.specs.Lists.{last, is_nothing}
 use Rattle.cr_base.specs.Plans.{planned_papers, planned_members, best_plan}
-use Rattle.cr_base.specs.Sources.{Facts, Shown, facts_of_tables, shown_in_tables}
-use Rattle.cr_base.specs.Tables.{tables_of}
+use Rattle.cr_base.specs.Sources.{Facts, Shown}
 use Rattle.cr_policy.specs.Judge.{answer, needs_login}
 use Rattle.cr_policy.specs.Legal.{Legal}
 use Rattle.cr_policy.specs.Sentences.{before_bidding, before_discussion, is_over, from_reviewing, from_discussion}
@@ -24,6 +23,7 @@ use Rattle.cr_policy.specs.Sentences.{committee_at_work}
 use Rattle.cr_policy.specs.Sentences.{on_committee, chairs, has_part, may_have_it, is_external_of, in_conflict}
 use Rattle.cr_policy.specs.Sentences.{is_paper, is_in, is_public, wrote, is_eligible, reviews, of_some}
 use Rattle.cr_policy.specs.View.{view}
+use Rattle.cr_policy.specs.ViewFacts.{facts_in_view, shown_in_view}
 
 -- ---- a paper
 
@@ -83,12 +83,12 @@ may_plan_by facts shown per_paper load =
     nat_le (per_paper * papers) 512 && nat_le (papers * length (planned_members facts)) 4096
     && is_some (best_plan facts shown per_paper load)
 
--- a chair may have a plan while the committee works, if `may_plan_by` holds. It reads the facts of the tables, which
--- are those of the history; every other sentence here reads the history.
+-- a chair may have a plan while the committee works, if `may_plan_by` holds of what the chair's view tells; every other
+-- sentence here reads the history
 abbrev pub may_plan : ℕ → History → ℕ → ℕ → Bool
 may_plan u H per_paper load =
     chairs u H && committee_at_work H
-    && may_plan_by (facts_of_tables (tables_of H) (Some u)) (shown_in_tables (tables_of H)) per_paper load
+    && may_plan_by (facts_in_view (Some u) (view (Some u) H)) (shown_in_view (Some u) (view (Some u) H)) per_paper load
 
 -- ---- all of them
 
