@@ -58,6 +58,7 @@ def configuration(folder, upstream, port, is_closed):
     for old, new in (
         ("server 127.0.0.1:8080;", f"server 127.0.0.1:{upstream};"),
         ("listen 443 ssl;", f"listen 127.0.0.1:{port} ssl;"),
+        ("listen [::]:443 ssl;", f"listen [::1]:{port} ssl;"),
         ("/etc/ssl/certs/review.example.org.pem", f"{folder}/cert.pem"),
         ("/etc/ssl/private/review.example.org.key", f"{folder}/key.pem"),
     ):
