@@ -20,9 +20,9 @@ use Rattle.cr_base.specs.Pairs.{with_tie, without_pair, tie_value, ties_of}
 use Rattle.cr_base.specs.Seats.{SeatsState, SeatsInOrder, SeatsFit, vacated, without_seat, seats_after, labels_in}
 use Rattle.cr_base.specs.Seats.{ordinal_in}
 use Rattle.cr_base.specs.Ties.{pair_of}
-use Rattle.cr_base.proofs.ListLaws.{turned}
 use Rattle.cr_base.proofs.PairLaws.{tie_value-with_tie, tie_value-without_pair}
 use Rattle.cr_base.proofs.SeatLaws.{seats-in_order-after, ordinal_in-after, ordinal_in-drawn, labels_in-few}
+use Rattle.cr_base.proofs.Small.{eqb-swap}
 use Rattle.cr_kept.specs.Drawers.{with_changed}
 use Rattle.cr_kept.specs.Own.{values_in, AreOwn}
 use Rattle.cr_kept.proofs.OwnLaws.{own-of}
@@ -67,7 +67,7 @@ module _ (seats : SeatsState) (users : Order) (reviewing : List (Tie ℕ))
       (λ q.
       ap (tie_value q) put
       ∙ tie_value-with_tie q users (reviewing_tie paper user ordinal) reviewing
-      ∙ ap (λ b. cond (b && eqb q.user user) (Some ordinal) (tie_value q reviewing)) (turned q.paper paper)
+      ∙ ap (λ b. cond (b && eqb q.user user) (Some ordinal) (tie_value q reviewing)) (eqb-swap q.paper paper)
       ∙ told-last (eqb paper q.paper && eqb q.user user) (tie_value q reviewing) (Some ordinal))
 
   pub indexed-unassigned : (paper user ordinal : ℕ) (seats' : SeatsState) (users' : Order) (reviewing' : List (Tie ℕ))
@@ -79,7 +79,7 @@ module _ (seats : SeatsState) (users : Order) (reviewing : List (Tie ℕ))
       (λ q.
       ap (tie_value q) taken
       ∙ tie_value-without_pair q (pair_of paper user) reviewing
-      ∙ ap (λ b. cond (b && eqb q.user user) None (tie_value q reviewing)) (turned q.paper paper)
+      ∙ ap (λ b. cond (b && eqb q.user user) None (tie_value q reviewing)) (eqb-swap q.paper paper)
       ∙ told-last (eqb paper q.paper && eqb q.user user) (tie_value q reviewing) None)
 
 -- ---- where the code marks a seat as left

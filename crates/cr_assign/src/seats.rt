@@ -26,7 +26,7 @@ use cr_base::{
     Entry, Kind, Order, Ordinal, Pair, PaperNo, Role, Rule, Seat, Stamped, Standing, Steps, Target,
     Tie, UserNo,
 };
-use cr_kept::Files;
+use cr_kept::Cabinet;
 use cr_pairs::{IndexedPairs, PairRows, papers_of};
 use std::alloc::{AllocError, Global};
 use std::marker::Model;
@@ -43,7 +43,7 @@ use std::sync::ledger::Ledger;
 pub struct Seats {
     alloc: Global,
     // By paper, in the order in which they were given; also those that somebody left.
-    seats: Files<Tie<Seat>>,
+    seats: Cabinet<Tie<Seat>>,
     // Papers and users of the seats that nobody has left, with their ordinals, by user.
     reviewing: PairRows<Ordinal>,
     // Papers, and the users who are invited to them, members since or not.
@@ -123,7 +123,7 @@ impl Seats {
     {
         Seats {
             alloc,
-            seats: Files::new(alloc),
+            seats: Cabinet::new(alloc),
             reviewing: PairRows::new(alloc, Order::ByUser),
             invites: IndexedPairs::new(alloc),
         }

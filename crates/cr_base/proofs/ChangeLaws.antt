@@ -7,6 +7,7 @@ use Rattle.std.specs.List.{slice_get}
 use Rattle.std.specs.Option.{option_map, option_map_or}
 use Rattle.std.proofs.lemmas.Bool.Decides.{nat_tests}
 use Rattle.cr_base.specs.Lists.{numbered, numbers_from}
+use Rattle.cr_base.proofs.Small.{eqb-zero-suc, eqb-suc-zero, eqb-suc}
 
 module _ {A : Type 0} (change : A → A) where
   -- the list with the element at this index changed, where there is one
@@ -33,22 +34,14 @@ module _ {A : Type 0} (change : A → A) where
   get-changed_at : (xs : List A) (k i : ℕ) → slice_get (changed_at xs k) i ≡ where_changed (eqb k i) (slice_get xs i)
   get-changed_at [] k i = none-changed (eqb k i)
   get-changed_at (x ∷ xs) zero zero = refl
-  get-changed_at (x ∷ xs) zero (suc i) = ap (λ b. where_changed b (slice_get xs i)) (sym (never i))
-    where
-      never : (i : ℕ) → eqb 0 (suc i) ≡ false
-      never i = grind (arith, nat_tests)
+  get-changed_at (x ∷ xs) zero (suc i) = ap (λ b. where_changed b (slice_get xs i)) (sym (eqb-zero-suc i))
   get-changed_at (x ∷ xs) (suc k) zero =
-      ap (λ (ys : List A). slice_get ys 0) (changed_at-suc x xs k) ∙ ap (λ b. where_changed b (Some x)) (sym (never k))
-    where
-      never : (k : ℕ) → eqb (suc k) 0 ≡ false
-      never k = grind (arith, nat_tests)
+      ap (λ (ys : List A). slice_get ys 0) (changed_at-suc x xs k)
+      ∙ ap (λ b. where_changed b (Some x)) (sym (eqb-suc-zero k))
   get-changed_at (x ∷ xs) (suc k) (suc i) =
       ap (λ (ys : List A). slice_get ys (suc i)) (changed_at-suc x xs k)
       ∙ get-changed_at xs k i
-      ∙ ap (λ b. where_changed b (slice_get xs i)) (step k i)
-    where
-      step : (k i : ℕ) → eqb k i ≡ eqb (suc k) (suc i)
-      step k i = grind (arith, nat_tests)
+      ∙ ap (λ b. where_changed b (slice_get xs i)) (eqb-suc k i)
 
   -- the same by number
   pub numbered-changed_at : (xs : List A) (n m : ℕ) → 1 ≤ n

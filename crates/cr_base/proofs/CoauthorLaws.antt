@@ -7,7 +7,7 @@ use Rattle.std.specs.Prelude.{map, nat_le, nat_lt}
 use Rattle.std.specs.List.{flat_map, list_any, position_from, AllByRecursion}
 use Rattle.std.specs.Option.{option_map}
 use Rattle.std.specs.Str.{bytes_eq}
-use Rattle.std.proofs.lemmas.Bool.{and_parts}
+use Rattle.std.proofs.lemmas.Bool.{and_parts, and_from}
 use Rattle.std.proofs.lemmas.Bool.Decides.{nat_tests}
 use Rattle.std.proofs.lemmas.List.Folds.{list_any-append}
 use Rattle.cr_base.specs.declared.entry.Account.{Account}
@@ -24,8 +24,8 @@ use Rattle.cr_base.specs.Sources.{number_in, users_among}
 use Rattle.cr_base.specs.Tables.{Tables, tables_after, Fits, FitInTurn}
 use Rattle.cr_base.specs.Ties.{BareTies, pair_of, bare_tie, are_before, are_up_to}
 use Rattle.cr_base.proofs.AccountLaws.{number_at-from, number_in-lines_of}
-use Rattle.cr_base.proofs.ListLaws.{turned}
 use Rattle.cr_base.proofs.TieLaws.{has_pair-push, all-push}
+use Rattle.cr_base.proofs.Small.{eqb-self, nat_le-self, nat_lt-eqb-swap, eqb-swap}
 
 -- ---- the users of names
 
@@ -100,17 +100,14 @@ grouped-fits t stamp e (next ∷ es) fit rest = (
 abbrev AreAuthors : BareTies → ℕ → List ℕ → Type 0
 AreAuthors authors paper these = (v : ℕ) → has_pair (pair_of paper v) authors ≡ list_any (λ w. eqb w v) these
 
-self_equal : (n : ℕ) → eqb n n ≡ true
-self_equal n = grind (arith, nat_tests)
-
 -- with one more behind them
 authors-push : (authors : BareTies) (paper user : ℕ) (these : List ℕ) → AreAuthors authors paper these
     → AreAuthors (authors ++ bare_tie paper user ∷ []) paper (these ++ user ∷ [])
 authors-push authors paper user these are v =
     has_pair-push (pair_of paper v) authors (bare_tie paper user)
-    ∙ ap (λ b. (b && eqb v user) || has_pair (pair_of paper v) authors) (self_equal paper)
+    ∙ ap (λ b. (b && eqb v user) || has_pair (pair_of paper v) authors) (eqb-self paper)
     ∙ ap (λ b. eqb v user || b) (are v)
-    ∙ ap (λ b. b || list_any (λ w. eqb w v) these) (turned v user)
+    ∙ ap (λ b. b || list_any (λ w. eqb w v) these) (eqb-swap v user)
     ∙ swap (eqb user v) (list_any (λ w. eqb w v) these)
     ∙ sym (list_any-append (λ w. eqb w v) these (user ∷ []))
   where
@@ -128,7 +125,7 @@ coauthors-fit t stamp paper these (user ∷ users) low last up are within =
     by (list_any (λ v. eqb v user) these) refl
     (coauthors-fit t stamp paper these users low last up are within.1)
     (coauthors-fit after stamp paper (these ++ user ∷ []) users low last
-    (all-push _ t.ties.authors (bare_tie paper user) up (at_most paper))
+    (all-push _ t.ties.authors (bare_tie paper user) up (nat_le-self paper))
     (authors-push t.ties.authors paper user these are) within.1)
   where
     after : Tables
@@ -136,9 +133,6 @@ coauthors-fit t stamp paper these (user ∷ users) low last up are within =
 
     added : List ℕ → List Entry
     added us = map (λ (u : ℕ). Coauthor paper u) us
-
-    at_most : (n : ℕ) → nat_le n n ≡ true
-    at_most n = grind (arith, nat_tests)
 
     by : (told : Bool) → list_any (λ v. eqb v user) these ≡ told
         → FitInTurn t (grouped stamp (added (besides these users)))
@@ -165,24 +159,19 @@ none-before : (paper v : ℕ) (authors : BareTies) → are_before paper authors 
 none-before paper v [] before = refl
 none-before paper v (t ∷ authors) before =
     let parts = and_parts (nat_lt t.pair.paper paper) (are_before paper authors) before in
-    ap (λ b. (b && eqb v t.pair.user) || has_pair (pair_of paper v) authors) (other t.pair.paper paper parts.0)
+    ap (λ b. (b && eqb v t.pair.user) || has_pair (pair_of paper v) authors)
+    (nat_lt-eqb-swap t.pair.paper paper parts.0)
     ∙ none-before paper v authors parts.1
-  where
-    other : (n p : ℕ) → nat_lt n p ≡ true → eqb p n ≡ false
-    other n p h = grind (arith, nat_tests, h)
 
 up-to : (paper : ℕ) (authors : BareTies) → are_before paper authors ≡ true → are_up_to paper authors ≡ true
 up-to paper [] before = refl
 up-to paper (t ∷ authors) before =
     let parts = and_parts (nat_lt t.pair.paper paper) (are_before paper authors) before in
-    both (nat_le t.pair.paper paper) (are_up_to paper authors) (less t.pair.paper paper parts.0)
+    and_from (nat_le t.pair.paper paper) (are_up_to paper authors) (less t.pair.paper paper parts.0)
     (up-to paper authors parts.1)
   where
     less : (n p : ℕ) → nat_lt n p ≡ true → nat_le n p ≡ true
     less n p h = grind (arith, nat_tests, h)
-
-    both : (a b : Bool) → a ≡ true → b ≡ true → (a && b) ≡ true
-    both a b ha hb = grind (arith, ha, hb)
 
 pub submission-fits : (t : Tables) (stamp : Stamp) (paper : ℕ) (title abstract users : List ℕ)
     → PapersFit t.papers stamp.maker (Submitted paper title abstract)
@@ -197,8 +186,5 @@ submission-fits t stamp paper title abstract users fits before within =
     (record { accounts = tt; papers = fits; ties = before; seats = tt; reviews = tt; talk = tt })
     (coauthors-fit (tables_after t (stamped stamp false (Submitted paper title abstract))) stamp paper
     (stamp.maker ∷ []) users (omega (arith, next)) (omega (arith, n, next))
-    (all-push _ t.ties.authors (bare_tie paper stamp.maker) (up-to paper t.ties.authors before) (at_most paper))
+    (all-push _ t.ties.authors (bare_tie paper stamp.maker) (up-to paper t.ties.authors before) (nat_le-self paper))
     (authors-push t.ties.authors paper stamp.maker [] (λ v. none-before paper v t.ties.authors before)) within)
-  where
-    at_most : (n : ℕ) → nat_le n n ≡ true
-    at_most n = grind (arith, nat_tests)

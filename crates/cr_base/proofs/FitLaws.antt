@@ -2,10 +2,10 @@
 -- The entries that a command draws fit the tables, each in its turn.
 use Rattle.std.proofs.Common.{ℕ, Bool, true, false, cond, ◌≡◌, ◌≤◌, ◌<◌, ◌+◌, ◌==◌, List, [], ◌∷◌, length}
 use Rattle.std.proofs.Common.{length-append, refl, sym, ap, subst, ◌∙◌, arith, Option, Some, None, is_some, Result, Ok}
-use Rattle.std.specs.Prelude.{is_none, unwrap_or, not, nat_le, nat_lt, ◌||◌, ◌&&◌, map}
+use Rattle.std.specs.Prelude.{is_none, unwrap_or, not, nat_le, ◌||◌, ◌&&◌, map}
 use Rattle.std.specs.List.{flat_map, list_any, list_all, AllByRecursion}
 use Rattle.std.specs.Option.{option_map}
-use Rattle.std.proofs.lemmas.Bool.{and_parts, leb-false, true≢false, not-false}
+use Rattle.std.proofs.lemmas.Bool.{and_parts, leb-false, true≢false, not-false, ltb-false}
 use Rattle.std.proofs.lemmas.Bool.Decides.{nat_tests}
 use Rattle.std.proofs.lemmas.List.{append-nil, length-map}
 use Rattle.cr_base.specs.History.{FormTold}
@@ -227,7 +227,7 @@ module _ (t : Tables) (within : AreWithin (paper_count t.papers) t.ties) (stamp 
           papers = (
             paper_within t.papers.papers paper none.0,
             refl,
-            not-past 67108864 (own + length content) none.1.1.1.1.1.0,
+            ltb-false 67108864 (own + length content) none.1.1.1.1.1.0,
           );
           ties = tt;
           seats = tt;
@@ -236,9 +236,6 @@ module _ (t : Tables) (within : AreWithin (paper_count t.papers) t.ties) (stamp 
         },
         tt,
       )
-    where
-      not-past : (most n : ℕ) → nat_lt most n ≡ false → n ≤ most
-      not-past most n h = grind (arith, nat_tests, h)
   deed-fits (Withdraw paper) none = (
     record {
       accounts = tt;

@@ -10,8 +10,8 @@ use Rattle.cr_base.specs.Lists.{given, last_or}
 use Rattle.cr_base.specs.Pairs.{has_pair}
 use Rattle.cr_base.specs.Papers.{PapersState, papers_after, paper_count, PapersFit}
 use Rattle.cr_base.specs.Ties.{pair_of, are_within}
-use Rattle.cr_base.proofs.ListLaws.{turned}
 use Rattle.cr_base.proofs.TieLaws.{has_pair-switched, within-kept, within-switched}
+use Rattle.cr_base.proofs.Small.{eqb-swap}
 
 -- nobody is told anything
 untold : (b on : Bool) → false ≡ last_or false (given (b && false) on)
@@ -26,7 +26,7 @@ is_invited_in-after None p invites (Invited paper user) = untold (eqb paper p) t
 is_invited_in-after None p invites (Uninvited paper user) = untold (eqb paper p) false
 is_invited_in-after (Some v) p invites (Invited paper user) =
     has_pair-switched true (pair_of p v) paper user invites
-    ∙ ap (λ b. (b && eqb v user) || before) (turned p paper)
+    ∙ ap (λ b. (b && eqb v user) || before) (eqb-swap p paper)
     ∙ by (eqb paper p && eqb v user) before
   where
     before : Bool
@@ -37,7 +37,7 @@ is_invited_in-after (Some v) p invites (Invited paper user) =
     by false there = refl
 is_invited_in-after (Some v) p invites (Uninvited paper user) =
     has_pair-switched false (pair_of p v) paper user invites
-    ∙ ap (λ b. not (b && eqb v user) && before) (turned p paper)
+    ∙ ap (λ b. not (b && eqb v user) && before) (eqb-swap p paper)
     ∙ by (eqb paper p && eqb v user) before
   where
     before : Bool

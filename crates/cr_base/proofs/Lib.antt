@@ -19,6 +19,7 @@ pub mod RoleLaws
 pub mod RowCommandLaws
 pub mod RowLaws
 pub mod SeatLaws
+pub mod Small
 pub mod SortedLists
 pub mod StepLaws
 pub mod ParseLaws

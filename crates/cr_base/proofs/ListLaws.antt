@@ -12,10 +12,7 @@ use Rattle.cr_base.specs.declared.reply.AccountLine.{AccountLine}
 use Rattle.cr_base.specs.Accounts.{lines_from, lines_of, account_at, role_at}
 use Rattle.cr_base.specs.Sources.{name_in, role_among}
 use Rattle.cr_base.specs.Lists.{is_number, numbered, numbers_from}
-
--- two numbers are compared either way
-pub turned : (n m : ℕ) → eqb n m ≡ eqb m n
-turned n m = grind (arith, nat_tests)
+use Rattle.cr_base.proofs.Small.{eqb-suc-zero, eqb-zero-suc}
 
 -- a number that is there and is this one
 pub number-is : (u : Option ℕ) (n : ℕ) → is_number u n ≡ true → u ≡ Some n
@@ -43,20 +40,14 @@ numbered-some [] (suc n) low high = absurd (omega arith)
 numbered-some (x ∷ xs) (suc zero) low high = (x, refl)
 numbered-some (x ∷ xs) (suc (suc n)) low high = numbered-some xs (suc n) (omega arith) (omega arith)
 
-not_zero : (n : ℕ) → eqb (suc n) 0 ≡ false
-not_zero n = grind (arith, nat_tests)
-
-zero_not : (n : ℕ) → eqb 0 (suc n) ≡ false
-zero_not n = grind (arith, nat_tests)
-
 step_equal : (n k : ℕ) → eqb (suc n) (k + 1) ≡ eqb n k
 step_equal n k = grind (arith, nat_tests)
 
 get-push : {A : Type 0} (xs : List A) (x : A) (n : ℕ)
     → slice_get (xs ++ x ∷ []) n ≡ cond (eqb n (length xs)) (Some x) (slice_get xs n)
 get-push [] x zero = refl
-get-push {A} [] x (suc n) = let nothing : Option A = None in ap (λ b. cond b (Some x) nothing) (sym (not_zero n))
-get-push (y ∷ xs) x zero = ap (λ b. cond b (Some x) (Some y)) (sym (zero_not (length xs)))
+get-push {A} [] x (suc n) = let nothing : Option A = None in ap (λ b. cond b (Some x) nothing) (sym (eqb-suc-zero n))
+get-push (y ∷ xs) x zero = ap (λ b. cond b (Some x) (Some y)) (sym (eqb-zero-suc (length xs)))
 get-push {A} (y ∷ xs) x (suc n) =
     get-push xs x n ∙ ap (λ b. cond b (Some x) (slice_get xs n)) (sym (step n (length xs)))
   where

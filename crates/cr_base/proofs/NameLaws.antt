@@ -6,17 +6,15 @@ use Rattle.std.specs.List.{slice_get, position_from}
 use Rattle.std.specs.Option.{option_map}
 use Rattle.std.specs.Str.{bytes_eq}
 use Rattle.std.proofs.lemmas.Slice.Eq.{bytes_eq-Decides}
+use Rattle.std.proofs.lemmas.Option.{none-some}
 use Rattle.cr_base.specs.declared.entry.Account.{Account}
 use Rattle.cr_base.specs.Accounts.{number_at, account_at}
 use Rattle.cr_base.proofs.AccountLaws.{number_at-from}
 
-none_some : {A : Type 0} (x : A) → None ≡ Some x → ⊥
-none_some x e = cc (e)
-
 named-from : (accounts : List Account) (name : List ℕ) (i k : ℕ)
     → position_from (λ (a : Account). bytes_eq a.name name) i accounts ≡ Some k
     → (d : ℕ) × (k ≡ i + d) × (option_map (λ (a : Account). a.name) (slice_get accounts d) ≡ Some name)
-named-from [] name i k h = absurd (none_some k h)
+named-from [] name i k h = absurd (none-some k h)
 named-from (a ∷ accounts) name i k h = by (bytes_eq a.name name) refl h (λ h. named-from accounts name (i + 1) k h)
   where
     by : (b : Bool) → bytes_eq a.name name ≡ b

@@ -6,7 +6,7 @@ use Rattle.std.specs.Prelude.{slice_index}
 use Rattle.std.specs.Char.{is_ascii_digit}
 use Rattle.std.specs.List.{list_all}
 use Rattle.std.specs.Str.Parse.{AllDigits, digits_value}
-use Rattle.std.proofs.lemmas.Bool.{and_parts}
+use Rattle.std.proofs.lemmas.Bool.{and_parts, leb-true}
 use Rattle.std.proofs.lemmas.Bool.Decides.{nat_tests}
 use Rattle.std.proofs.lemmas.Str.{digit_value_digit}
 use Rattle.std.proofs.lemmas.Str.Parse.{digits_value-take-le, digits_value_short, numerals_by_value, tells_digits}
@@ -27,16 +27,13 @@ digits (b ∷ rest) h =
 not_zero : (b : ℕ) → IsTrue (not (b == 48)) → b ≢ 48
 not_zero b h e = let bad : false ≡ true = rw e at h in cc
 
-at_most : (n m : ℕ) → IsTrue (nat_le n m) → n ≤ m
-at_most n m h = grind (arith, nat_tests)
-
 -- a number's bytes are at most four, the first isn't 0, and all are digits
 pub parts : (text : List ℕ) → IsTrue (is_paper_number text)
     → (length text ≤ 4) × IsTrue (not (slice_index text 0 == 48)) × IsTrue (list_all is_ascii_digit text)
 parts text h =
     let front = and_parts (is_short text && not (slice_index text 0 == 48)) (list_all is_ascii_digit text) h in
     let short = and_parts (is_short text) (not (slice_index text 0 == 48)) front.0 in
-    let few = at_most (length text) 4 (and_parts (nat_le 1 (length text)) (nat_le (length text) 4) short.0).1 in
+    let few = leb-true (length text) 4 (and_parts (nat_le 1 (length text)) (nat_le (length text) 4) short.0).1 in
     (few, short.1, front.1)
 
 -- digits of which the first isn't 0 write at least 1

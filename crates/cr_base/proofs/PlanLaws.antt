@@ -3,8 +3,7 @@
 use Rattle.std.proofs.Common.{ℕ, Bool, true, false, cond, ◌≡◌, ◌<◌, ◌+◌, List, [], ◌∷◌, map, refl, arith, Option}
 use Rattle.std.specs.Prelude.{filter, nat_lt, not}
 use Rattle.std.specs.List.{list_all}
-use Rattle.std.proofs.lemmas.Bool.{and_from}
-use Rattle.std.proofs.lemmas.Bool.Decides.{nat_tests}
+use Rattle.std.proofs.lemmas.Bool.{and_from, lt-ltb}
 use Rattle.cr_base.specs.declared.entry.Account.{Account}
 use Rattle.cr_base.specs.declared.reply.AccountLine.{AccountLine}
 use Rattle.cr_base.specs.Accounts.{lines_from}
@@ -38,15 +37,12 @@ users-above test m n (a ∷ accounts) low =
     line : AccountLine
     line = record { user = n; name = a.name; role = a.role }
 
-    less : (m n : ℕ) → m < n → nat_lt m n ≡ true
-    less m n h = grind (arith, nat_tests)
-
     rest : List AccountLine
     rest = filter test (lines_from (n + 1) accounts)
 
     by : (b : Bool) → list_all (nat_lt m) (users rest) ≡ true
         → list_all (nat_lt m) (users (cond b (line ∷ rest) rest)) ≡ true
-    by true h = and_from (nat_lt m n) (list_all (nat_lt m) (users rest)) (less m n low) h
+    by true h = and_from (nat_lt m n) (list_all (nat_lt m) (users rest)) (lt-ltb m n low) h
     by false h = h
 
 pub users-rise : (test : AccountLine → Bool) (n : ℕ) (accounts : List Account)

@@ -2,12 +2,11 @@
 -- What resolves a command: who is found by a name is there, and the command that an entry tells is the one whose deed
 -- begins with such an entry.
 use Rattle.std.proofs.Common.{ℕ, Bool, true, false, ◌≡◌, List, [], ◌∷◌, eqb, refl, sym, ap, ◌∙◌}
-use Rattle.std.proofs.Common.{arith, subst, Option, Some, None, is_some, cond, IfSome}
+use Rattle.std.proofs.Common.{subst, Option, Some, None, is_some, cond, IfSome}
 use Rattle.std.specs.Prelude.{find, unwrap_or}
 use Rattle.std.specs.Option.{option_map}
 use Rattle.std.specs.Str.{bytes_eq}
-use Rattle.std.proofs.lemmas.Bool.{true≢false}
-use Rattle.std.proofs.lemmas.Bool.Decides.{nat_tests}
+use Rattle.std.proofs.lemmas.Bool.{true≢false, eq-eqb}
 use Rattle.cr_base.specs.declared.entry.Entry.{Entry}
 use Rattle.cr_base.specs.declared.entry.Entry.TheVariants as entries
 use Rattle.cr_base.specs.declared.reply.AccountLine.{AccountLine}
@@ -38,10 +37,7 @@ finds (a ∷ lines) name user found = by (bytes_eq a.name name) (eqb a.user user
     by false false is found rest = rest found
     by true false is found rest =
         let same : a.user ≡ user = cc in
-        absurd (true≢false (sym (equal a.user user same) ∙ is))
-      where
-        equal : (m n : ℕ) → m ≡ n → eqb m n ≡ true
-        equal m n e = grind (arith, nat_tests, e)
+        absurd (true≢false (sym (eq-eqb a.user user same) ∙ is))
 
 -- who is found by a name is there
 pub found-there : (lines : List AccountLine) (name : List ℕ) (user : ℕ) → number_in lines name ≡ Some user

@@ -5,7 +5,7 @@ use Rattle.std.proofs.Common.{ℕ, Bool, true, false, cond, ◌≡◌, ◌≤◌
 use Rattle.std.proofs.Common.{sym, ap, ◌∙◌, arith, ◌||◌, ◌&&◌}
 use Rattle.std.specs.Prelude.{nat_le, nat_lt, map}
 use Rattle.std.specs.List.{filter, list_any, list_all}
-use Rattle.std.proofs.lemmas.Bool.{eqb-true, eq-eqb, and_parts, true≢false}
+use Rattle.std.proofs.lemmas.Bool.{eqb-true, eq-eqb, and_parts, true≢false, ltb-false, lt-ltb}
 use Rattle.std.proofs.lemmas.Bool.Decides.{nat_tests}
 use Rattle.cr_base.specs.declared.pairs.Order.{Order}
 use Rattle.cr_base.specs.declared.pairs.Order.TheVariants.{ByPaper, ByUser}
@@ -17,6 +17,7 @@ use Rattle.cr_base.specs.Pairs.{others_of}
 use Rattle.cr_base.proofs.ListLaws.{list_any-numbers_from}
 use Rattle.cr_base.proofs.PairLaws.{list_any-others_of}
 use Rattle.cr_base.proofs.SortedLists.{sorted-filter}
+use Rattle.cr_base.proofs.Small.{nat_lt-eqb, eqb-swap}
 use Rattle.std.proofs.lemmas.Map.Views.{any-filter_same}
 
 -- the number is in the list
@@ -53,18 +54,12 @@ first_least x y ys above h = by (nat_lt x y) refl
     by : (b : Bool) → nat_lt x y ≡ b → y ≤ x
     by true less =
         let gone : (eqb x y || has_number x ys) ≡ false =
-        ap (λ b. b || has_number x ys) (other x y less) ∙ absent x y ys (least x y less) above in
+        ap (λ b. b || has_number x ys) (nat_lt-eqb x y less) ∙ absent x y ys (least x y less) above in
         absurd (true≢false (sym h ∙ gone))
       where
-        other : (x y : ℕ) → nat_lt x y ≡ true → eqb x y ≡ false
-        other x y less = grind (arith, nat_tests)
-
         least : (x y : ℕ) → nat_lt x y ≡ true → x ≤ y
         least x y less = grind (arith, nat_tests)
-    by false less = most x y less
-      where
-        most : (x y : ℕ) → nat_lt x y ≡ false → y ≤ x
-        most x y less = grind (arith, nat_tests)
+    by false less = ltb-false x y less
 
 itself : (x : ℕ) (b : Bool) → (eqb x x || b) ≡ true
 itself x b = ap (λ c. c || b) (eq-eqb x x refl)
@@ -88,11 +83,8 @@ rising-same (x ∷ xs) (y ∷ ys) rising rising' same =
 -- the numbers of elements
 above-numbers_from : {A : Type 0} (m n : ℕ) (xs : List A) → m < n → list_all (nat_lt m) (numbers_from n xs) ≡ true
 above-numbers_from m n [] h = refl
-above-numbers_from m n (x ∷ xs) h = ap (λ b. b && list_all (nat_lt m) (numbers_from (n + 1) xs)) (less m n h)
+above-numbers_from m n (x ∷ xs) h = ap (λ b. b && list_all (nat_lt m) (numbers_from (n + 1) xs)) (lt-ltb m n h)
     ∙ above-numbers_from m (n + 1) xs (omega arith)
-  where
-    less : (m n : ℕ) → m < n → nat_lt m n ≡ true
-    less m n h = grind (arith, nat_tests)
 
 pub rising-numbers_from : {A : Type 0} (n : ℕ) (xs : List A) → IsRising (numbers_from n xs)
 rising-numbers_from n [] = tt
@@ -150,11 +142,8 @@ others_of-same order n ts us rising rising' same =
 
 has_number-numbers_from : {A : Type 0} (v : ℕ) (xs : List A)
     → has_number v (numbers_from 1 xs) ≡ (nat_le 1 v && nat_le v (1 + length xs - 1))
-has_number-numbers_from v xs = ap (λ (test : ℕ → Bool). list_any test (numbers_from 1 xs)) (λ i m. turned v m i)
+has_number-numbers_from v xs = ap (λ (test : ℕ → Bool). list_any test (numbers_from 1 xs)) (λ i m. eqb-swap v m i)
     ∙ list_any-numbers_from 1 v xs (omega arith)
-  where
-    turned : (v m : ℕ) → eqb v m ≡ eqb m v
-    turned v m = grind (arith, nat_tests)
 
 inside : (v n : ℕ) (b : Bool) → (b ≡ true → (1 ≤ v) × (v ≤ n)) → (b && (nat_le 1 v && nat_le v (1 + n - 1))) ≡ b
 inside v n true h = let low = (h refl).0 in let high = (h refl).1 in both v n low high

@@ -12,7 +12,8 @@ use Rattle.cr_base.specs.declared.words.Role.TheVariants as role
 use Rattle.cr_base.specs.Accounts.{with_role, role_in, has_digest}
 use Rattle.cr_base.specs.Lists.{numbered}
 use Rattle.cr_base.proofs.ChangeLaws.{where_changed, numbered-changed_at}
-use Rattle.cr_base.proofs.ListLaws.{turned, numbered-none, numbered-some, numbered-push}
+use Rattle.cr_base.proofs.ListLaws.{numbered-none, numbered-some, numbered-push}
+use Rattle.cr_base.proofs.Small.{eqb-swap}
 
 -- ---- another role
 
@@ -46,7 +47,7 @@ role_in-with_role accounts user n role' low high =
     ∙ role_or-given (numbered accounts n) (eqb user n) role'
     (λ same. let e : user ≡ n = eqb-true user n same in numbered-some accounts n (omega (arith, e, low))
     (omega (arith, e, high)))
-    ∙ ap (λ b. cond b role' (role_in accounts (Some n))) (turned user n)
+    ∙ ap (λ b. cond b role' (role_in accounts (Some n))) (eqb-swap user n)
 
 role_or-push : (o : Option Account) (b : Bool) (a : Account) → a.role ≡ role.Account → (b ≡ true → o ≡ None)
     → role_or (cond b (Some a) o) ≡ role_or o

@@ -26,11 +26,12 @@ use Rattle.cr_base.specs.Seats.{SeatsState, seat_tie, with_seat, vacated, is_sea
 use Rattle.cr_base.specs.Seats.{seats_taken, ordinal_in, SeatsFit, AreOfDifferentUsers, SeatsInOrder}
 use Rattle.cr_base.specs.Ties.{are_within}
 use Rattle.cr_base.proofs.FiledLaws.{of-inserted}
-use Rattle.cr_base.proofs.ListLaws.{turned, number-is, numbers_from-push}
+use Rattle.cr_base.proofs.ListLaws.{number-is, numbers_from-push}
 use Rattle.cr_base.proofs.RisingLists.{rising-numbers_from}
 use Rattle.cr_base.proofs.SortedLists.{list_all-filter, list_all-append}
 use Rattle.cr_base.proofs.TargetLaws.{paper_within}
 use Rattle.cr_base.proofs.TieLaws.{within-kept, in_range}
+use Rattle.cr_base.proofs.Small.{nat_lt-eqb, eqb-swap}
 
 -- ---- which papers have seats
 
@@ -118,7 +119,7 @@ without-other p paper ordinal (t ∷ ts) other = by (eqb p t.pair.paper) refl (w
   where
     unlike : (p paper q ordinal o : ℕ) → eqb p paper ≡ false → eqb p q ≡ true → (paper == q && ordinal == o) ≡ false
     unlike p paper q ordinal o other same =
-        ap (λ b. b && eqb ordinal o) (ap (λ n. eqb paper n) (sym (eqb-true p q same)) ∙ turned paper p ∙ other)
+        ap (λ b. b && eqb ordinal o) (ap (λ n. eqb paper n) (sym (eqb-true p q same)) ∙ eqb-swap paper p ∙ other)
 
     by : (b : Bool) → eqb p t.pair.paper ≡ b → without_seat paper ordinal (ties_of ByPaper p ts) ≡ ties_of ByPaper p ts
         → without_seat paper ordinal (cond b (t ∷ ties_of ByPaper p ts) (ties_of ByPaper p ts))
@@ -135,7 +136,7 @@ pub labels_in-after : (seats : SeatsState) (e : Entry) (p : ℕ)
 labels_in-after seats (Assigned paper user kind ordinal) p =
     ap length (ties_of-with_seat p (seat_tie paper user kind ordinal) seats)
     ∙ length-append (ties_of ByPaper p seats) (given (eqb p paper) (seat_tie paper user kind ordinal))
-    ∙ ap (λ n. labels_in seats p + n) (by (eqb p paper) (eqb paper p) (turned p paper))
+    ∙ ap (λ n. labels_in seats p + n) (by (eqb p paper) (eqb paper p) (eqb-swap p paper))
   where
     by : (b c : Bool) → b ≡ c → length (given b (seat_tie paper user kind ordinal))
         ≡ length {A = SeatTold} (given c (record { ordinal = ordinal; kind = Some kind; user = Some user }))
@@ -239,12 +240,9 @@ hers-behind user ordinal [] above none = tt
 hers-behind user ordinal (t ∷ ts) above none =
     let parts = and_parts (nat_lt ordinal t.value.ordinal) (list_all (nat_lt ordinal) (ordinals ts)) above in
     let nones = or_parts (eqb t.pair.user user) (list_any (λ (s : Tie Seat). eqb s.pair.user user) ts) none in (
-      other ordinal t.value.ordinal parts.0 ∙ sym (turned user t.pair.user ∙ nones.0),
+      nat_lt-eqb ordinal t.value.ordinal parts.0 ∙ sym (eqb-swap user t.pair.user ∙ nones.0),
       hers-behind user ordinal ts parts.1 nones.1,
     )
-  where
-    other : (n m : ℕ) → nat_lt n m ≡ true → eqb n m ≡ false
-    other n m h = grind (arith, nat_tests, h)
 
 -- a seat that is found behind others has a greater ordinal
 found-above : (n user ordinal : ℕ) (ts : List (Tie Seat)) → list_all (nat_lt n) (ordinals ts) ≡ true
@@ -348,7 +346,7 @@ found-left user ordinal (t ∷ ts) hers u =
     apart (Some v) other at = unlike v t.pair.user user (sym hers.0 ∙ other) at
       where
         unlike : (v w user : ℕ) → eqb user w ≡ false → eqb v w ≡ true → eqb v user ≡ false
-        unlike v w user h at = subst (λ (n : ℕ). eqb n user ≡ false) (sym (eqb-true v w at)) (turned w user ∙ h)
+        unlike v w user h at = subst (λ (n : ℕ). eqb n user ≡ false) (sym (eqb-true v w at)) (eqb-swap w user ∙ h)
 
     by : (m b c : Bool) → (m ≡ true → b ≡ c) → (m ≡ false → b ≡ true → c ≡ false)
         → found u kept ≡ cond c None (found u ts)
@@ -522,7 +520,7 @@ pub ordinal_in-after : (seats : SeatsState) (e : Entry) → SeatsInOrder seats �
     ≡ last_or (ordinal_in seats u p) (ordinal_told u p e)
 ordinal_in-after seats (Assigned paper user kind ordinal) order fits u p =
     ap (found u) (taken-with_seat seats paper user kind ordinal p) ∙ by (eqb p paper) (is_number u user) refl refl
-    ∙ ap (λ b. last_or (ordinal_in seats u p) (given (b && is_number u user) (Some ordinal))) (turned p paper)
+    ∙ ap (λ b. last_or (ordinal_in seats u p) (given (b && is_number u user) (Some ordinal))) (eqb-swap p paper)
   where
     s : Tie Seat
     s = seat_tie paper user kind ordinal
@@ -561,7 +559,7 @@ ordinal_in-after seats (Assigned paper user kind ordinal) order fits u p =
 ordinal_in-after seats (Unassigned paper user ordinal) order fits u p =
     ap (λ (ts : SeatsState). found u (filter stays ts)) (ties_of-without_seat p paper ordinal seats)
     ∙ by (eqb p paper) refl
-    ∙ ap (λ b. last_or (ordinal_in seats u p) (given (b && is_number u user) None)) (turned p paper)
+    ∙ ap (λ b. last_or (ordinal_in seats u p) (given (b && is_number u user) None)) (eqb-swap p paper)
   where
     hers : eqb p paper ≡ true → AreHers user ordinal (seats_taken seats p)
     hers at = are_hers user ordinal (seats_taken seats p) (rising-taken seats order p) (order.single p)

@@ -19,10 +19,10 @@ use Rattle.cr_base.specs.Pairs.{same_pair, is_tied, has_pair, ties_of, users_tie
 use Rattle.cr_base.specs.Papers.{PapersState, new_paper, with_texts, as_withdrawn, papers_after, paper_count, PapersFit}
 use Rattle.cr_base.specs.Ties.{BareTies, TiesState, pair_of, bare_tie, switched, ties_after, authors_in}
 use Rattle.cr_base.specs.Ties.{is_conflict_on_in, are_before, are_within, AreWithin}
-use Rattle.cr_base.proofs.ListLaws.{turned}
 use Rattle.cr_base.proofs.PaperLaws.{length-with_paper}
 use Rattle.cr_base.proofs.PairLaws.{same_pair-is, list_all-with_tie, has_pair-with_tie, has_pair-without_pair}
 use Rattle.cr_base.proofs.SortedLists.{list_all-filter}
+use Rattle.cr_base.proofs.Small.{or-swap, within-low, within-high, eqb-swap}
 
 -- ---- pairs
 
@@ -58,12 +58,7 @@ pub has_pair-push : (q : Pair) (ts : BareTies) (s : Tie (Unit {0}))
     → has_pair q (ts ++ s ∷ []) ≡ (is_tied q s || has_pair q ts)
 has_pair-push q [] s = refl
 has_pair-push q (t ∷ ts) s =
-    ap (λ b. is_tied q t || b) (has_pair-push q ts s) ∙ swap (is_tied q t) (is_tied q s) (has_pair q ts)
-  where
-    swap : (a b c : Bool) → (a || (b || c)) ≡ (b || (a || c))
-    swap true true c = refl
-    swap true false c = refl
-    swap false b c = refl
+    ap (λ b. is_tied q t || b) (has_pair-push q ts s) ∙ or-swap (is_tied q t) (is_tied q s) (has_pair q ts)
 
 -- ---- what one more entry tells
 
@@ -71,9 +66,9 @@ has_pair-push q (t ∷ ts) s =
 pub authors_in-after : (p : ℕ) (ties : TiesState) (maker : ℕ) (e : Entry)
     → authors_in (ties_after ties maker e) p ≡ authors_in ties p ++ author_told p maker e
 authors_in-after p ties maker (Submitted paper title abstract) = users_tied_to-push p ties.authors paper maker
-    ∙ ap (λ b. authors_in ties p ++ given b maker) (turned p paper)
+    ∙ ap (λ b. authors_in ties p ++ given b maker) (eqb-swap p paper)
 authors_in-after p ties maker (Coauthor paper user) = users_tied_to-push p ties.authors paper user
-    ∙ ap (λ b. authors_in ties p ++ given b user) (turned p paper)
+    ∙ ap (λ b. authors_in ties p ++ given b user) (eqb-swap p paper)
 authors_in-after p ties maker (Conflict paper user on) = sym (append-nil (authors_in ties p))
 authors_in-after p ties maker e = sym (append-nil (authors_in ties p))
 
@@ -88,7 +83,7 @@ is_conflict_on_in-after None p ties maker (Conflict paper user on) = by (eqb pap
     by false = refl
 is_conflict_on_in-after (Some v) p ties maker (Conflict paper user on) =
     has_pair-switched on (pair_of p v) paper user ties.conflicts
-    ∙ ap (λ b. cond on ((b && eqb v user) || before) (not (b && eqb v user) && before)) (turned p paper)
+    ∙ ap (λ b. cond on ((b && eqb v user) || before) (not (b && eqb v user) && before)) (eqb-swap p paper)
     ∙ by on (eqb paper p && eqb v user) before
   where
     before : Bool
@@ -154,12 +149,6 @@ within-pair n q (t ∷ ts) all there =
     let parts = and_parts (nat_le 1 t.pair.paper && nat_le t.pair.paper n) (are_within n ts) all in
     by (is_tied q t) refl there (within-pair n q ts parts.1)
   where
-    low : (p n : ℕ) → (nat_le 1 p && nat_le p n) ≡ true → 1 ≤ p
-    low p n h = grind (arith, nat_tests)
-
-    high : (p n : ℕ) → (nat_le 1 p && nat_le p n) ≡ true → p ≤ n
-    high p n h = grind (arith, nat_tests)
-
     first : (nat_le 1 t.pair.paper && nat_le t.pair.paper n) ≡ true
     first = (and_parts (nat_le 1 t.pair.paper && nat_le t.pair.paper n) (are_within n ts) all).0
 
@@ -167,7 +156,8 @@ within-pair n q (t ∷ ts) all there =
         → (has_pair q ts ≡ true → (1 ≤ q.paper) × (q.paper ≤ n)) → (1 ≤ q.paper) × (q.paper ≤ n)
     by true same h rest =
         let e : t.pair ≡ q = sym (same_pair-is q t.pair same) in
-        subst (λ (x : Pair). (1 ≤ x.paper) × (x.paper ≤ n)) e (low t.pair.paper n first, high t.pair.paper n first)
+        subst (λ (x : Pair). (1 ≤ x.paper) × (x.paper ≤ n)) e
+        (within-low t.pair.paper n first, within-high t.pair.paper n first)
     by false same h rest = rest h
 
 -- papers only come, so they are there behind any entry

@@ -8,10 +8,11 @@ use Rattle.cr_base.specs.declared.words.Role.{Role}
 use Rattle.cr_base.specs.declared.words.Role.TheVariants as role
 use Rattle.cr_base.specs.declared.entry.Account.{Account}
 use Rattle.cr_base.specs.declared.entry.Entry.{Entry}
-use Rattle.cr_base.specs.declared.entry.Entry.TheVariants.{Registered, Named, Coauthor, Conflict, Assigned, Unassigned}
-use Rattle.cr_base.specs.declared.entry.Entry.TheVariants.{Dismissed, Invited, Uninvited}
+use Rattle.cr_base.specs.declared.entry.Entry.TheVariants.{Registered, Named}
+use Rattle.cr_base.specs.declared.entry.Entry.TheVariants.{Dismissed}
 use Rattle.cr_base.specs.declared.reply.AccountLine.{AccountLine}
-use Rattle.cr_base.specs.Lists.{numbered}
+use Rattle.cr_base.specs.History.{user_about}
+use Rattle.cr_base.specs.Lists.{AtSome, numbered}
 use Rattle.cr_base.specs.Words.{is_chair}
 
 -- ---- the state
@@ -71,16 +72,12 @@ chair_count accounts = count_by (λ (a : AccountLine). is_chair a.role) accounts
 
 -- ---- which entry may come next
 
+-- the account is there
+abbrev pub IsAccount : List Account → ℕ → Type 0
+IsAccount accounts user = (1 ≤ user) × (user ≤ length accounts)
+
 -- an entry fits: the number drawn is the next one and the name is new, or the account is there
 abbrev pub AccountsFit : List Account → Entry → Type 0
 AccountsFit accounts (Registered user name digest) =
     (user ≡ length accounts + 1) × (user ≤ 9999) × (number_at accounts name ≡ None)
-AccountsFit accounts (Named user role) = (1 ≤ user) × (user ≤ length accounts)
-AccountsFit accounts (Coauthor paper user) = (1 ≤ user) × (user ≤ length accounts)
-AccountsFit accounts (Conflict paper user on) = (1 ≤ user) × (user ≤ length accounts)
-AccountsFit accounts (Assigned paper user kind ordinal) = (1 ≤ user) × (user ≤ length accounts)
-AccountsFit accounts (Unassigned paper user ordinal) = (1 ≤ user) × (user ≤ length accounts)
-AccountsFit accounts (Dismissed user) = (1 ≤ user) × (user ≤ length accounts)
-AccountsFit accounts (Invited paper user) = (1 ≤ user) × (user ≤ length accounts)
-AccountsFit accounts (Uninvited paper user) = (1 ≤ user) × (user ≤ length accounts)
-AccountsFit accounts _ = Unit {0}
+AccountsFit accounts e = AtSome (IsAccount accounts) (user_about e)

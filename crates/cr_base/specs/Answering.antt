@@ -20,7 +20,7 @@ use Rattle.cr_base.specs.declared.reply.Reply.TheVariants as replies
 use Rattle.cr_base.specs.declared.reply.Rule.{Rule}
 use Rattle.cr_base.specs.declared.reply.Rule.TheVariants as rules
 use Rattle.cr_base.specs.declared.review.ReviewLine.{ReviewLine}
-use Rattle.cr_base.specs.declared.search.Step.{Step}
+use Rattle.cr_base.specs.declared.search.Node.{Node}
 use Rattle.cr_base.specs.declared.standing.Standing.{Standing}
 use Rattle.cr_base.specs.Checks.{Check, judged, of_there, page_checks, content_checks, reviews_checks, comments_checks}
 use Rattle.cr_base.specs.Checks.{response_checks, reads_all_forms}
@@ -257,14 +257,14 @@ told_of_paper facts shown caller p = record {
       (judged (query_checks facts shown (queries.Response (Some p))) (replies.Response (response_by shown (Some p)))));
 }
 
--- the papers that a search finds, by number, with what it tells of each
-abbrev pub found_by : Facts → Shown → Option ℕ → List Step → List FoundPaper
+-- the papers that a search finds, by number, each with what the search tells of it
+abbrev pub found_by : Facts → Shown → Option ℕ → List Node → List FoundPaper
 found_by facts shown caller search =
     map (λ (p : ℕ). found_paper p (told_of_paper facts shown caller p))
     (filter (λ (p : ℕ). is_found (told_of_paper facts shown caller p) search) facts.papers)
 
--- them, or how many there are
-abbrev pub search_told : Facts → Shown → Option ℕ → List Step → Bool → Reply
+-- the reply to a search: the papers that it finds, or only how many there are
+abbrev pub search_told : Facts → Shown → Option ℕ → List Node → Bool → Reply
 search_told facts shown caller search true = replies.Count (length (found_by facts shown caller search))
 search_told facts shown caller search false = replies.Found (found_by facts shown caller search)
 

@@ -16,12 +16,12 @@ use Rattle.cr_base.specs.declared.tag.SetTag.{SetTag}
 use Rattle.cr_base.specs.declared.words.Decision.{Decision}
 use Rattle.cr_base.specs.declared.words.Kind.{Kind}
 use Rattle.cr_base.specs.declared.words.Phase.{Phase}
-use Rattle.cr_base.specs.declared.words.Phase.TheVariants.{Response, Discussion}
+use Rattle.cr_base.specs.declared.words.Phase.TheVariants.{Response}
 use Rattle.cr_base.specs.declared.words.Mode.{Mode}
 use Rattle.cr_base.specs.declared.words.Role.{Role}
 use Rattle.cr_base.specs.declared.words.Role.TheVariants.{Account}
 use Rattle.cr_base.specs.Lists.{given, is_number}
-use Rattle.cr_base.specs.Phases.{is_phase, may_have_deadline}
+use Rattle.cr_base.specs.Phases.{committee_reads_from, is_phase, may_have_deadline}
 use Rattle.cr_base.specs.Tags.{tag_owner}
 
 -- the entries of the accepted commands, in order. Those of one command are next to each other, and all of them but the
@@ -80,7 +80,50 @@ all_told told H = flat_map (λ (e : Stamped). told e.entry) H
 abbrev pub all_told_by : {A : Type 0} → (ℕ → Entry → List A) → History → List A
 all_told_by told H = flat_map (λ (e : Stamped). told e.stamp.maker e.entry) H
 
--- the phase, the mode that it sets
+-- ---- what it names
+
+-- the paper on which the entry is, and which is submitted before it. A submission is about no paper, since the paper
+-- isn't there before it.
+abbrev pub paper_about : Entry → Option ℕ
+paper_about (Registered user name digest) = None
+paper_about (Named user role) = None
+paper_about (PhaseSet phase) = None
+paper_about (ModeSet mode) = None
+paper_about (Submitted paper title abstract) = None
+paper_about (Coauthor paper user) = Some paper
+paper_about (Revised paper title abstract) = Some paper
+paper_about (Uploaded paper version content) = Some paper
+paper_about (Withdrawn paper) = Some paper
+paper_about (Conflict paper user on) = Some paper
+paper_about (Bid paper value) = Some paper
+paper_about (Assigned paper user kind ordinal) = Some paper
+paper_about (Unassigned paper user ordinal) = Some paper
+paper_about (Reviewed paper ordinal version form) = Some paper
+paper_about (Commented paper n ordinal text) = Some paper
+paper_about (Tagged paper tag on) = Some paper
+paper_about (Decided paper decision) = Some paper
+paper_about (DeadlineSet phase until) = None
+paper_about (Dismissed user) = None
+paper_about (Invited paper user) = Some paper
+paper_about (Uninvited paper user) = Some paper
+paper_about (Responded paper text) = Some paper
+
+-- the user whom the entry names, and who has registered before it. A registration is about no user, since the user
+-- isn't there before it.
+abbrev pub user_about : Entry → Option ℕ
+user_about (Named user role) = Some user
+user_about (Coauthor paper user) = Some user
+user_about (Conflict paper user on) = Some user
+user_about (Assigned paper user kind ordinal) = Some user
+user_about (Unassigned paper user ordinal) = Some user
+user_about (Dismissed user) = Some user
+user_about (Invited paper user) = Some user
+user_about (Uninvited paper user) = Some user
+user_about _ = None
+
+-- ---- what it gives of each fact
+
+-- the phase that the entry sets
 abbrev pub phase_told : Entry → List Phase
 phase_told (PhaseSet phase) = phase ∷ []
 phase_told _ = []
@@ -105,9 +148,9 @@ abbrev pub opens : Phase → Entry → Bool
 opens first (PhaseSet phase) = is_phase phase first
 opens first _ = false
 
--- whether it opens the discussion
+-- the entry sets the phase to the one from which members read each other's reviews: the discussion
 abbrev pub opens_discussion : Stamped → Bool
-opens_discussion e = opens Discussion e.entry
+opens_discussion e = opens committee_reads_from e.entry
 
 -- the entry sets the phase to the response
 abbrev pub opens_response : Stamped → Bool

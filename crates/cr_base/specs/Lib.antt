@@ -45,4 +45,5 @@ pub mod Tags
 pub mod Talk
 pub mod Texts
 pub mod Ties
+pub mod Traits
 pub mod Words

@@ -1,117 +1,63 @@
 -- SPDX-License-Identifier: Apache-2.0 OR MIT
--- What a command or a query asks for, and who must be logged in for it: all by one table of what can be asked for.
+-- What a command or a query asks for, and so whether a login is wanted for it (Traits).
 use Rattle.std.specs.Prelude.{Bool, true, false}
 use Rattle.cr_base.specs.declared.ask.Ask.{Ask}
 use Rattle.cr_base.specs.declared.ask.Ask.TheVariants as asks
+use Rattle.cr_base.specs.declared.ask.Question.TheVariants as questions
+use Rattle.cr_base.specs.declared.ask.Task.{Task}
+use Rattle.cr_base.specs.declared.ask.Task.TheVariants as tasks
 use Rattle.cr_base.specs.declared.command.Command.{Command}
 use Rattle.cr_base.specs.declared.command.Command.TheVariants as commands
 use Rattle.cr_base.specs.declared.command.Query.{Query}
 use Rattle.cr_base.specs.declared.command.Query.TheVariants as queries
-use Rattle.cr_base.specs.declared.report.Report.{Report}
-use Rattle.cr_base.specs.declared.report.Report.TheVariants as reports
+use Rattle.cr_base.specs.Reports.{report_kind}
+use Rattle.cr_base.specs.Traits.{ask_wants_login}
 
--- ---- the table
-
--- nobody may register, and be told the accounts, the state of the conference, its deadlines and the accepted papers;
--- all else is a registered user's, but for what is published (`login_wanted` in Answering)
-abbrev pub ask_wants_login : Ask → Bool
-ask_wants_login asks.Register = false
-ask_wants_login asks.Accounts = false
-ask_wants_login asks.Phase = false
-ask_wants_login asks.Deadlines = false
-ask_wants_login asks.AcceptedPapers = false
-ask_wants_login asks.Name = true
-ask_wants_login asks.Dismiss = true
-ask_wants_login asks.SetMode = true
-ask_wants_login asks.SetPhase = true
-ask_wants_login asks.SetDeadline = true
-ask_wants_login asks.Submit = true
-ask_wants_login asks.Revise = true
-ask_wants_login asks.Withdraw = true
-ask_wants_login asks.Page = true
-ask_wants_login asks.Upload = true
-ask_wants_login asks.Content = true
-ask_wants_login asks.Version = true
-ask_wants_login asks.SetConflict = true
-ask_wants_login asks.Bid = true
-ask_wants_login asks.Assign = true
-ask_wants_login asks.Unassign = true
-ask_wants_login asks.Invite = true
-ask_wants_login asks.Uninvite = true
-ask_wants_login asks.Review = true
-ask_wants_login asks.Reviews = true
-ask_wants_login asks.Comment = true
-ask_wants_login asks.Comments = true
-ask_wants_login asks.Respond = true
-ask_wants_login asks.Response = true
-ask_wants_login asks.Tag = true
-ask_wants_login asks.Untag = true
-ask_wants_login asks.Decide = true
-ask_wants_login asks.Me = true
-ask_wants_login asks.Search = true
-ask_wants_login asks.Bulk = true
-ask_wants_login asks.PapersReport = true
-ask_wants_login asks.ScoresReport = true
-ask_wants_login asks.LoadReport = true
-ask_wants_login asks.DecisionsReport = true
-ask_wants_login asks.Letter = true
-ask_wants_login asks.Plan = true
-
--- whether a request for this reads the field Authorization: those that want a login, also where what is published
--- wants none, since of a published paper those who say who they are may be told more
-abbrev pub ask_reads_credentials : Ask → Bool
-ask_reads_credentials ask = ask_wants_login ask
-
--- ---- commands and queries
+-- what a command asks to change
+abbrev pub task_of : Command → Task
+task_of (commands.Register name digest) = tasks.Register
+task_of (commands.SetPhase phase) = tasks.SetPhase
+task_of (commands.Submit title abstract authors) = tasks.Submit
+task_of (commands.Revise paper title abstract) = tasks.Revise
+task_of (commands.Upload paper content) = tasks.Upload
+task_of (commands.Withdraw paper) = tasks.Withdraw
+task_of (commands.Name user role) = tasks.Name
+task_of (commands.SetMode mode) = tasks.SetMode
+task_of (commands.SetConflict paper user on) = tasks.SetConflict
+task_of (commands.Bid paper value) = tasks.Bid
+task_of (commands.Assign paper user kind) = tasks.Assign
+task_of (commands.Unassign paper user) = tasks.Unassign
+task_of (commands.Review paper form) = tasks.Review
+task_of (commands.Comment paper text) = tasks.Comment
+task_of (commands.Tag paper tag true) = tasks.Tag
+task_of (commands.Tag paper tag false) = tasks.Untag
+task_of (commands.Decide paper decision) = tasks.Decide
+task_of (commands.SetDeadline phase until) = tasks.SetDeadline
+task_of (commands.Dismiss user) = tasks.Dismiss
+task_of (commands.Invite paper user) = tasks.Invite
+task_of (commands.Uninvite paper user) = tasks.Uninvite
+task_of (commands.Respond paper text) = tasks.Respond
 
 -- the request by which a command is given, and by which a query is asked
 abbrev pub command_ask : Command → Ask
-command_ask (commands.Register name digest) = asks.Register
-command_ask (commands.SetPhase phase) = asks.SetPhase
-command_ask (commands.Submit title abstract authors) = asks.Submit
-command_ask (commands.Revise paper title abstract) = asks.Revise
-command_ask (commands.Upload paper content) = asks.Upload
-command_ask (commands.Withdraw paper) = asks.Withdraw
-command_ask (commands.Name user role) = asks.Name
-command_ask (commands.SetMode mode) = asks.SetMode
-command_ask (commands.SetConflict paper user on) = asks.SetConflict
-command_ask (commands.Bid paper value) = asks.Bid
-command_ask (commands.Assign paper user kind) = asks.Assign
-command_ask (commands.Unassign paper user) = asks.Unassign
-command_ask (commands.Review paper form) = asks.Review
-command_ask (commands.Comment paper text) = asks.Comment
-command_ask (commands.Tag paper tag true) = asks.Tag
-command_ask (commands.Tag paper tag false) = asks.Untag
-command_ask (commands.Decide paper decision) = asks.Decide
-command_ask (commands.SetDeadline phase until) = asks.SetDeadline
-command_ask (commands.Dismiss user) = asks.Dismiss
-command_ask (commands.Invite paper user) = asks.Invite
-command_ask (commands.Uninvite paper user) = asks.Uninvite
-command_ask (commands.Respond paper text) = asks.Respond
-
-abbrev pub report_ask : Report → Ask
-report_ask reports.Papers = asks.PapersReport
-report_ask reports.Scores = asks.ScoresReport
-report_ask reports.Load = asks.LoadReport
-report_ask reports.Decisions = asks.DecisionsReport
-report_ask (reports.Letter paper) = asks.Letter
+command_ask command = asks.Give (task_of command)
 
 -- what a request for this query asks for
 abbrev pub query_ask : Query → Ask
-query_ask queries.Me = asks.Me
-query_ask queries.Accounts = asks.Accounts
-query_ask queries.Phase = asks.Phase
-query_ask queries.Deadlines = asks.Deadlines
-query_ask queries.AcceptedPapers = asks.AcceptedPapers
-query_ask (queries.Page paper) = asks.Page
-query_ask (queries.Content paper) = asks.Content
-query_ask (queries.Version paper version) = asks.Version
-query_ask (queries.Reviews paper) = asks.Reviews
-query_ask (queries.Comments paper) = asks.Comments
-query_ask (queries.Response paper) = asks.Response
-query_ask (queries.Search search only_count) = asks.Search
-query_ask (queries.Report report) = report_ask report
-query_ask (queries.Plan per_paper load) = asks.Plan
+query_ask queries.Me = asks.Tell questions.Me
+query_ask queries.Accounts = asks.Tell questions.Accounts
+query_ask queries.Phase = asks.Tell questions.Phase
+query_ask queries.Deadlines = asks.Tell questions.Deadlines
+query_ask queries.AcceptedPapers = asks.Tell questions.AcceptedPapers
+query_ask (queries.Page paper) = asks.Tell questions.Page
+query_ask (queries.Content paper) = asks.Tell questions.Content
+query_ask (queries.Version paper version) = asks.Tell questions.Version
+query_ask (queries.Reviews paper) = asks.Tell questions.Reviews
+query_ask (queries.Comments paper) = asks.Tell questions.Comments
+query_ask (queries.Response paper) = asks.Tell questions.Response
+query_ask (queries.Search search only_count) = asks.Tell questions.Search
+query_ask (queries.Report report) = asks.Report (report_kind report)
+query_ask (queries.Plan per_paper load) = asks.Tell questions.Plan
 
 -- each wants the login that its request does
 abbrev pub command_wants_login : Command → Bool

@@ -5,14 +5,12 @@ use Rattle.std.specs.Prelude.{List, [], ◌∷◌, ◌++◌, length, zero, suc}
 use Rattle.std.specs.Prelude.{slice_index, slice_set, Option, Some, None}
 use Rattle.std.specs.Option.{option_map, option_map_or}
 use Rattle.cr_base.specs.declared.entry.Entry.{Entry}
-use Rattle.cr_base.specs.declared.entry.Entry.TheVariants.{Submitted, Coauthor, Revised, Uploaded, Withdrawn, Conflict}
-use Rattle.cr_base.specs.declared.entry.Entry.TheVariants.{Bid, Assigned, Unassigned, Reviewed}
-use Rattle.cr_base.specs.declared.entry.Entry.TheVariants.{Commented, Tagged, Decided, Invited, Uninvited, Responded}
+use Rattle.cr_base.specs.declared.entry.Entry.TheVariants.{Submitted, Coauthor, Revised, Uploaded, Withdrawn}
 use Rattle.cr_base.specs.declared.filed.Filed.{Filed}
 use Rattle.cr_base.specs.declared.paper.Paper.{Paper}
 use Rattle.cr_base.specs.Filed.{filed, with_filed, filed_of}
-use Rattle.cr_base.specs.History.{Upload}
-use Rattle.cr_base.specs.Lists.{numbered, numbers_from}
+use Rattle.cr_base.specs.History.{Upload, paper_about}
+use Rattle.cr_base.specs.Lists.{AtSome, numbered, numbers_from}
 
 -- ---- the state
 
@@ -121,20 +119,7 @@ abbrev pub PapersFit : PapersState → ℕ → Entry → Type 0
 PapersFit state maker (Submitted paper title abstract) =
     (paper ≡ paper_count state + 1) × (paper ≤ 9999) × (own_count state (Some maker) < 20)
 PapersFit state maker (Coauthor paper user) = (1 ≤ paper) × (paper ≡ paper_count state)
-PapersFit state maker (Revised paper title abstract) = IsPaper state paper
 PapersFit state maker (Uploaded paper version content) =
     IsPaper state paper × (version ≡ length (uploads_at state paper) + 1)
     × (own_bytes state (Some maker) + length content ≤ 67108864)
-PapersFit state maker (Withdrawn paper) = IsPaper state paper
-PapersFit state maker (Conflict paper user on) = IsPaper state paper
-PapersFit state maker (Bid paper value) = IsPaper state paper
-PapersFit state maker (Assigned paper user kind ordinal) = IsPaper state paper
-PapersFit state maker (Unassigned paper user ordinal) = IsPaper state paper
-PapersFit state maker (Reviewed paper ordinal version form) = IsPaper state paper
-PapersFit state maker (Commented paper n ordinal text) = IsPaper state paper
-PapersFit state maker (Tagged paper tag on) = IsPaper state paper
-PapersFit state maker (Decided paper decision) = IsPaper state paper
-PapersFit state maker (Invited paper user) = IsPaper state paper
-PapersFit state maker (Uninvited paper user) = IsPaper state paper
-PapersFit state maker (Responded paper text) = IsPaper state paper
-PapersFit state maker _ = Unit {0}
+PapersFit state maker e = AtSome (IsPaper state) (paper_about e)

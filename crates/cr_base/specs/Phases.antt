@@ -128,9 +128,14 @@ chairs_see_reviewers phase = is_from Bidding phase
 abbrev pub members_see_reviewers : Phase → Bool
 members_see_reviewers phase = is_from Discussion phase
 
--- a reviewer reads her own forms, and nobody else's yet
+-- the phase from which members read each other's reviews. Of the forms under a label that were written before it they
+-- read the last, and all that are written from it on.
+abbrev pub committee_reads_from : Phase
+committee_reads_from = Discussion
+
+-- reviewers read their own forms, and no other reviewer's yet
 abbrev pub reviewers_read_own : Phase → Bool
-reviewers_read_own phase = is_from Reviewing phase && not (is_from Discussion phase)
+reviewers_read_own phase = is_from Reviewing phase && not (is_from committee_reads_from phase)
 
 -- externals who review a paper read their own forms, and never another's
 abbrev pub externals_read_own : Phase → Bool
@@ -138,7 +143,7 @@ externals_read_own phase = is_from Reviewing phase
 
 -- members read each other's reviews
 abbrev pub members_read_reviews : Phase → Bool
-members_read_reviews phase = is_from Discussion phase
+members_read_reviews phase = is_from committee_reads_from phase
 
 -- members read comments
 abbrev pub members_read_comments : Phase → Bool

@@ -9,6 +9,8 @@ use Rattle.cr_base.specs.declared.reply.AccountLine.{AccountLine}
 use Rattle.cr_base.specs.declared.reply.Rule.TheVariants as rules
 use Rattle.cr_base.specs.declared.report.Report.{Report}
 use Rattle.cr_base.specs.declared.report.Report.TheVariants as reports
+use Rattle.cr_base.specs.declared.report.ReportKind.{ReportKind}
+use Rattle.cr_base.specs.declared.report.ReportKind.TheVariants as kinds
 use Rattle.cr_base.specs.declared.standing.Standing.{Standing}
 use Rattle.cr_base.specs.declared.words.Decision.{Decision}
 use Rattle.cr_base.specs.declared.words.Decision.TheVariants.{Accept, Reject}
@@ -23,6 +25,24 @@ use Rattle.cr_base.specs.Phases.{members_see_papers, chairs_see_reviewers, membe
 use Rattle.cr_base.specs.Phases.{members_read_decisions, letters_are_sent}
 use Rattle.cr_base.specs.Sources.{Facts, Shown, decision_by, name_in, has_paper}
 use Rattle.cr_base.specs.Words.{is_member, is_chair, decision_name, review_kind_number}
+
+-- ---- kinds
+
+-- the kind of a report
+abbrev pub report_kind : Report → ReportKind
+report_kind reports.Papers = kinds.Papers
+report_kind reports.Scores = kinds.Scores
+report_kind reports.Load = kinds.Load
+report_kind reports.Decisions = kinds.Decisions
+report_kind (reports.Letter paper) = kinds.Letter
+
+-- the report of a kind; a letter is on the paper told
+abbrev pub report_on : ReportKind → Option ℕ → Report
+report_on kinds.Papers paper = reports.Papers
+report_on kinds.Scores paper = reports.Scores
+report_on kinds.Load paper = reports.Load
+report_on kinds.Decisions paper = reports.Decisions
+report_on kinds.Letter paper = reports.Letter paper
 
 -- ---- who may have which
 

@@ -9,11 +9,11 @@ use Rattle.cr_base.specs.declared.entry.Entry.TheVariants.{PhaseSet, Reviewed}
 use Rattle.cr_base.specs.declared.filed.Filed.{Filed}
 use Rattle.cr_base.specs.declared.review.WrittenForm.{WrittenForm}
 use Rattle.cr_base.specs.declared.words.Phase.{Phase}
-use Rattle.cr_base.specs.declared.words.Phase.TheVariants.{Setup, Response, Discussion}
+use Rattle.cr_base.specs.declared.words.Phase.TheVariants.{Setup, Response}
 use Rattle.cr_base.specs.Filed.{filed, with_filed, filed_of}
 use Rattle.cr_base.specs.History.{FormTold, whole_form}
 use Rattle.cr_base.specs.Lists.{is_nothing, last, listed}
-use Rattle.cr_base.specs.Phases.{is_from}
+use Rattle.cr_base.specs.Phases.{committee_reads_from, is_from}
 
 -- ---- the state
 
@@ -65,7 +65,8 @@ written_told w = whole_form w.version w.form
 -- the forms under the paper's label of this ordinal that the committee discusses
 abbrev pub forms_discussed_in : ReviewsState → ℕ → ℕ → List FormTold
 forms_discussed_in reviews p o =
-    map written_told (listed (last_form_before reviews p o Discussion) ++ forms_from reviews p o Discussion)
+    map written_told
+    (listed (last_form_before reviews p o committee_reads_from) ++ forms_from reviews p o committee_reads_from)
 
 -- the form under the paper's label of this ordinal to which its authors respond: the last that was written before the
 -- response, if the response was opened

@@ -16,7 +16,7 @@ use Rattle.cr_base.specs.declared.search.Feature.{Feature}
 use Rattle.cr_base.specs.declared.search.Feature.TheVariants as features
 use Rattle.cr_base.specs.declared.search.Status.{Status}
 use Rattle.cr_base.specs.declared.search.Status.TheVariants.{Active, Withdrawn, Accepted}
-use Rattle.cr_base.specs.declared.search.Step.{Step}
+use Rattle.cr_base.specs.declared.search.Node.{Node}
 use Rattle.cr_base.specs.declared.search.Term.{Term}
 use Rattle.cr_base.specs.declared.search.Term.TheVariants as terms
 use Rattle.cr_base.specs.declared.words.Decision.{Decision}
@@ -119,12 +119,12 @@ tree_holds holds (both s t) = tree_holds holds s && tree_holds holds t
 tree_holds holds (either s t) = tree_holds holds s || tree_holds holds t
 
 -- the empty one holds
-abbrev pub search_holds : (Term → Bool) → List Step → Bool
-search_holds holds steps = option_map_or (tree_holds holds) (tree_of steps) true
+abbrev pub search_holds : (Term → Bool) → List Node → Bool
+search_holds holds nodes = option_map_or (tree_holds holds) (tree_of nodes) true
 
 -- the paper has a title for the caller, and the search holds of it
-abbrev pub is_found : PaperTold → List Step → Bool
-is_found told steps = is_some told.page.title && search_holds (term_holds told) steps
+abbrev pub is_found : PaperTold → List Node → Bool
+is_found told nodes = is_some told.page.title && search_holds (term_holds told) nodes
 
 -- what a search tells of a paper that it finds
 abbrev pub found_paper : ℕ → PaperTold → FoundPaper

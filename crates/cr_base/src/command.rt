@@ -1,9 +1,9 @@
 // SPDX-License-Identifier: Apache-2.0 OR MIT
 //! Commands and queries: what a request may ask for.
 ghost use Rattle.std.specs.Prelude.{◌≡◌};
-ghost use Rattle.cr_base.specs.Logins.{command_ask, command_wants_login, query_ask, query_wants_login};
+ghost use Rattle.cr_base.specs.Logins.{command_ask, command_wants_login, query_ask, query_wants_login, task_of};
 
-use crate::ask::Ask;
+use crate::ask::{Ask, Question, Task};
 use crate::bid::Bid;
 use crate::deadline::Deadline;
 use crate::entry::Digest;
@@ -253,34 +253,41 @@ pub enum Query {
 }
 
 impl Command {
+    /// Returns what it asks to change.
+    fn task(&self) -> Task
+        ensures { result ≡ task_of self.now }
+    {
+        match self {
+            Command::Register { .. } => Task::Register,
+            Command::SetPhase { .. } => Task::SetPhase,
+            Command::Submit { .. } => Task::Submit,
+            Command::Revise { .. } => Task::Revise,
+            Command::Upload { .. } => Task::Upload,
+            Command::Withdraw { .. } => Task::Withdraw,
+            Command::Name { .. } => Task::Name,
+            Command::SetMode { .. } => Task::SetMode,
+            Command::SetConflict { .. } => Task::SetConflict,
+            Command::Bid { .. } => Task::Bid,
+            Command::Assign { .. } => Task::Assign,
+            Command::Unassign { .. } => Task::Unassign,
+            Command::Review { .. } => Task::Review,
+            Command::Comment { .. } => Task::Comment,
+            Command::Tag { on: true, .. } => Task::Tag,
+            Command::Tag { on: false, .. } => Task::Untag,
+            Command::Decide { .. } => Task::Decide,
+            Command::SetDeadline { .. } => Task::SetDeadline,
+            Command::Dismiss { .. } => Task::Dismiss,
+            Command::Invite { .. } => Task::Invite,
+            Command::Uninvite { .. } => Task::Uninvite,
+            Command::Respond { .. } => Task::Respond,
+        }
+    }
+
     /// Returns the request by which it is given.
     pub fn ask(&self) -> Ask
         ensures { result ≡ command_ask self.now }
     {
-        match self {
-            Command::Register { .. } => Ask::Register,
-            Command::SetPhase { .. } => Ask::SetPhase,
-            Command::Submit { .. } => Ask::Submit,
-            Command::Revise { .. } => Ask::Revise,
-            Command::Upload { .. } => Ask::Upload,
-            Command::Withdraw { .. } => Ask::Withdraw,
-            Command::Name { .. } => Ask::Name,
-            Command::SetMode { .. } => Ask::SetMode,
-            Command::SetConflict { .. } => Ask::SetConflict,
-            Command::Bid { .. } => Ask::Bid,
-            Command::Assign { .. } => Ask::Assign,
-            Command::Unassign { .. } => Ask::Unassign,
-            Command::Review { .. } => Ask::Review,
-            Command::Comment { .. } => Ask::Comment,
-            Command::Tag { on: true, .. } => Ask::Tag,
-            Command::Tag { on: false, .. } => Ask::Untag,
-            Command::Decide { .. } => Ask::Decide,
-            Command::SetDeadline { .. } => Ask::SetDeadline,
-            Command::Dismiss { .. } => Ask::Dismiss,
-            Command::Invite { .. } => Ask::Invite,
-            Command::Uninvite { .. } => Ask::Uninvite,
-            Command::Respond { .. } => Ask::Respond,
-        }
+        Ask::Give(self.task())
     }
 
     /// Returns whether its request requires authentication: every command except a registration.
@@ -297,20 +304,20 @@ impl Query {
         ensures { result ≡ query_ask self.now }
     {
         match self {
-            Query::Me => Ask::Me,
-            Query::Accounts => Ask::Accounts,
-            Query::Phase => Ask::Phase,
-            Query::Deadlines => Ask::Deadlines,
-            Query::AcceptedPapers => Ask::AcceptedPapers,
-            Query::Page { .. } => Ask::Page,
-            Query::Content { .. } => Ask::Content,
-            Query::Version { .. } => Ask::Version,
-            Query::Reviews { .. } => Ask::Reviews,
-            Query::Comments { .. } => Ask::Comments,
-            Query::Response { .. } => Ask::Response,
-            Query::Search { .. } => Ask::Search,
-            Query::Report { report } => report.ask(),
-            Query::Plan { .. } => Ask::Plan,
+            Query::Me => Ask::Tell(Question::Me),
+            Query::Accounts => Ask::Tell(Question::Accounts),
+            Query::Phase => Ask::Tell(Question::Phase),
+            Query::Deadlines => Ask::Tell(Question::Deadlines),
+            Query::AcceptedPapers => Ask::Tell(Question::AcceptedPapers),
+            Query::Page { .. } => Ask::Tell(Question::Page),
+            Query::Content { .. } => Ask::Tell(Question::Content),
+            Query::Version { .. } => Ask::Tell(Question::Version),
+            Query::Reviews { .. } => Ask::Tell(Question::Reviews),
+            Query::Comments { .. } => Ask::Tell(Question::Comments),
+            Query::Response { .. } => Ask::Tell(Question::Response),
+            Query::Search { .. } => Ask::Tell(Question::Search),
+            Query::Report { report } => Ask::Report(report.kind()),
+            Query::Plan { .. } => Ask::Tell(Question::Plan),
         }
     }
 

@@ -10,13 +10,13 @@
 //! - A `UserNo` and a `PaperNo` are 1 to 9,999, a `Moment` 0 to 253,402,300,799, a `Deadline` 1 to 253,402,207,200:
 //!   the types. Names, digits and words are exact: `is_name` (`name`, `test`), `all_digits`, `decimal_value`, `name`.
 //! - Each command and query says what it asks for, and by that whether authentication is required and credentials are
-//!   read: `Command::ask`, `Query::ask`, `wants_login`, `Ask::reads_credentials`.
+//!   read: `Command::ask`, `Query::ask`, `Ask::traits`, `wants_login`.
 //! - Reading a record in a `Kept` takes one step; a caller sees as many steps as are ticked: `get` (`steps`),
 //!   `Steps::ticks`.
 //!
 //! # Assumed
 //!
-//! - Copies share their bytes, by the crate `bytes`. The definitions say what is meant. Counted code reads nothing
+//! - Copies share their bytes, by the `Arc` of std. The definitions say what is meant. Counted code reads nothing
 //!   uncounted.
 #![tactic(auto)]
 
@@ -65,6 +65,10 @@ mod words;
 pub use accepted::AcceptedPaper;
 pub use accepted::AcceptedPapers;
 pub use ask::Ask;
+pub use ask::Carrier;
+pub use ask::Question;
+pub use ask::Task;
+pub use ask::Traits;
 pub use bid::Bid;
 pub use bulk::Broken;
 pub use bulk::BulkRow;
@@ -120,6 +124,7 @@ pub use pairs::Tie;
 pub use paper::Paper;
 pub use parse::parse_name;
 pub use parse::parse_paper;
+pub use phases::COMMITTEE_READS_FROM;
 pub use plan::MOST_LOAD;
 pub use plan::PerPaper;
 pub use plan::PlanLoad;
@@ -130,6 +135,7 @@ pub use reply::Receipt;
 pub use reply::Reply;
 pub use reply::Rule;
 pub use report::Report;
+pub use report::ReportKind;
 pub use resolved::ResolvedCall;
 pub use resolved::ResolvedCommand;
 pub use resolved::ResolvedRow;
@@ -143,9 +149,9 @@ pub use row::OldVersion;
 pub use row::Row;
 pub use row::migrate_row;
 pub use search::Feature;
+pub use search::Node;
 pub use search::Search;
 pub use search::Status;
-pub use search::Step;
 pub use search::Term;
 pub use seat::Seat;
 pub use standing::Standing;

@@ -18,6 +18,10 @@ ghost use Rattle.cr_base.specs.Phases.{papers_may_be_accepted, papers_are_publis
 
 use crate::words::Phase;
 
+/// The phase from which members read each other's reviews, the discussion: of the forms under a label that were written
+/// before it they read the last, and all that are written from it on.
+pub const COMMITTEE_READS_FROM: Phase = Phase::Discussion;
+
 /// The order.
 impl Phase {
     /// Returns its rank in the order of phases, from 0.
@@ -225,7 +229,7 @@ impl Phase {
     pub fn reviewers_read_own(self) -> bool
         ensures { result ≡ reviewers_read_own self }
     {
-        self.is_from(Phase::Reviewing) && !self.is_from(Phase::Discussion)
+        self.is_from(Phase::Reviewing) && !self.is_from(COMMITTEE_READS_FROM)
     }
 
     /// Returns whether an external who reviews a paper reads their own forms, and never another's.
@@ -239,7 +243,7 @@ impl Phase {
     pub fn members_read_reviews(self) -> bool
         ensures { result ≡ members_read_reviews self }
     {
-        self.is_from(Phase::Discussion)
+        self.is_from(COMMITTEE_READS_FROM)
     }
 
     /// Returns whether members read comments.

@@ -1,10 +1,24 @@
 // SPDX-License-Identifier: Apache-2.0 OR MIT
 //! Reports: what the committee and authors may have as plain text.
 ghost use Rattle.std.specs.Prelude.{◌≡◌};
-ghost use Rattle.cr_base.specs.Logins.{report_ask};
+ghost use Rattle.cr_base.specs.Reports.{report_kind, report_on};
 
-use crate::ask::Ask;
 use crate::numbers::PaperNo;
+
+/// A report, by its kind.
+#[derive(Clone, Copy, PartialEq, Eq)]
+pub enum ReportKind {
+    /// All papers: GET or HEAD of `/reports/papers`.
+    Papers,
+    /// The scores of each paper: GET or HEAD of `/reports/scores`.
+    Scores,
+    /// Who reviews how much: GET or HEAD of `/reports/load`.
+    Load,
+    /// The decision on each paper: GET or HEAD of `/reports/decisions`.
+    Decisions,
+    /// The letter to a paper's authors: GET or HEAD of `/reports/letter/{p}`.
+    Letter,
+}
 
 /// Which report is asked for.
 #[derive(Clone, Copy)]
@@ -25,16 +39,31 @@ pub enum Report {
 }
 
 impl Report {
-    /// Returns the request by which it is asked.
-    pub fn ask(&self) -> Ask
-        ensures { result ≡ report_ask self.now }
+    /// Returns its kind.
+    pub fn kind(&self) -> ReportKind
+        ensures { result ≡ report_kind self.now }
     {
         match self {
-            Report::Papers => Ask::PapersReport,
-            Report::Scores => Ask::ScoresReport,
-            Report::Load => Ask::LoadReport,
-            Report::Decisions => Ask::DecisionsReport,
-            Report::Letter { .. } => Ask::Letter,
+            Report::Papers => ReportKind::Papers,
+            Report::Scores => ReportKind::Scores,
+            Report::Load => ReportKind::Load,
+            Report::Decisions => ReportKind::Decisions,
+            Report::Letter { .. } => ReportKind::Letter,
+        }
+    }
+}
+
+impl ReportKind {
+    /// Returns the report of this kind. A letter is on the paper told.
+    pub fn on(self, paper: Option<PaperNo>) -> Report
+        ensures { result ≡ report_on self paper }
+    {
+        match self {
+            ReportKind::Papers => Report::Papers,
+            ReportKind::Scores => Report::Scores,
+            ReportKind::Load => Report::Load,
+            ReportKind::Decisions => Report::Decisions,
+            ReportKind::Letter => Report::Letter { paper },
         }
     }
 }

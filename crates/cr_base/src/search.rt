@@ -61,61 +61,61 @@ pub enum Term {
     Has(Feature),
 }
 
-/// A step of a search in postfix order: terms and operations, each operation after its operands.
+/// A node of a search in postfix order: terms and operations, each operation after its operands.
 #[derive(Drop)]
-pub enum Step {
+pub enum Node {
     /// A term.
     Term(Term),
     /// The operand doesn't hold.
     Not,
     /// Both operands hold.
     And {
-        /// How many steps the second operand takes, which come right before this one.
+        /// How many nodes the second operand takes, which come right before this one.
         second: u16,
     },
     /// One of the operands holds, or both.
     Or {
-        /// How many steps the second operand takes, which come right before this one.
+        /// How many nodes the second operand takes, which come right before this one.
         second: u16,
     },
 }
 
-/// A search, or the empty one, which has no step and holds of every paper.
+/// A search, or the empty one, which has no node and holds of every paper.
 ///
 /// # Model
 ///
-/// Its steps, which spell one tree (`tree_of`).
+/// Its nodes, which spell one tree (`tree_of`).
 #[derive(Drop)]
 pub struct Search {
-    steps: Vec<Step>,
+    nodes: Vec<Node>,
 }
 
 impl Model for Search {
     ghost use Rattle.std.specs.Prelude.{List};
-    ghost use Rattle.cr_base.specs.declared.search.Step.{Step};
+    ghost use Rattle.cr_base.specs.declared.search.Node.{Node};
     ghost use Rattle.cr_base.specs.Search.{IsSpelled};
 
-    ghost Value = { List Step };
+    ghost Value = { List Node };
 
-    ghost view = { λ s. s.steps.items };
+    ghost view = { λ s. s.nodes.items };
 
-    ghost invariant = { λ s. IsSpelled s.steps.items };
+    ghost invariant = { λ s. IsSpelled s.nodes.items };
 }
 
 impl Search {
-    /// Returns the search that these steps spell.
-    pub fn from_steps(steps: Vec<Step>) -> Search
-        requires { IsSpelled steps.items }
-        ensures { result ≡ steps.items }
+    /// Returns the search that these nodes spell.
+    pub fn from_nodes(nodes: Vec<Node>) -> Search
+        requires { IsSpelled nodes.items }
+        ensures { result ≡ nodes.items }
     {
-        Search { steps }
+        Search { nodes }
     }
 
-    /// Returns its steps; the empty search has none.
-    pub fn steps(&self) -> &[Step]
+    /// Returns its nodes; the empty search has none.
+    pub fn nodes(&self) -> &[Node]
         ensures value { result.now ≡ self.now }
         ensures spelled { IsSpelled result.now }
     {
-        self.steps.as_slice()
+        self.nodes.as_slice()
     }
 }

@@ -9,10 +9,35 @@ ghost use Rattle.cr_base.specs.Texts.{is_review_text as is_review_text_of, is_co
 ghost use Rattle.cr_base.specs.Texts.{IsName, IsTitle, IsAbstract, IsContent, is_name as is_name_text, is_name_byte};
 ghost use Rattle.cr_base.specs.Texts.{is_title as is_title_text, is_title_byte, is_abstract as is_abstract_text};
 
-use bytes::{ByteStr, Bytes};
 use std::alloc::{AllocError, AllocFailed, Global};
 use std::hash::{Hash, Hasher};
 use std::marker::Model;
+use std::sync::Arc;
+
+/// A block of bytes, of which those after its first `start` are meant.
+#[derive(Drop, Debug)]
+struct Block {
+    bytes: Vec<u8>,
+    start: usize,
+}
+
+impl Block {
+    /// Returns the bytes meant.
+    fn as_slice(&self) -> &[u8]
+        requires { (self.now).start ≤ length (self.now).bytes.items }
+        ensures { result.now ≡ drop (self.now).start (self.now).bytes.items }
+    {
+        &self.bytes[self.start..]
+    }
+
+    /// Gives the whole block back.
+    fn into_bytes(self) -> Vec<u8>
+        ensures { result ≡ self.bytes }
+    {
+        let Block { bytes, start: _ } = self;
+        bytes
+    }
+}
 
 /// Bytes of any length, held once: a copy shares them.
 ///
@@ -21,13 +46,23 @@ use std::marker::Model;
 /// The list of its bytes.
 #[derive(Drop, Debug)]
 pub struct Blob {
-    bytes: Bytes,
+    // None has no bytes, and takes no memory.
+    block: Option<Arc<Block, Global>>,
 }
 
 impl Model for Blob {
+    ghost use Rattle.std.specs.Prelude.{ℕ, ◌≤◌, List, [], drop, length, IfSome};
+    ghost use Rattle.std.specs.Arc.{arc_value};
+    ghost use Rattle.std.specs.Option.{option_map_or};
+    ghost use Rattle.cr_base.specs.declared.texts.Block.{Block};
+
     ghost Value = { List ℕ };
 
-    ghost view = { λ b. b.bytes };
+    ghost view = { λ b.
+        option_map_or (λ a. drop (arc_value {X = Block} a).start (arc_value {X = Block} a).bytes.items) b.block [] };
+
+    ghost invariant = { λ b.
+        IfSome b.block (λ a. (arc_value {X = Block} a).start ≤ length (arc_value {X = Block} a).bytes.items) };
 }
 
 impl Blob {
@@ -39,9 +74,7 @@ impl Blob {
     pub fn empty() -> Blob
         ensures { result ≡ [] }
     {
-        Blob {
-            bytes: Bytes::new(),
-        }
+        Blob { block: None }
     }
 
     /// Returns a copy of these bytes, in a block of their own.
@@ -52,36 +85,62 @@ impl Blob {
     pub fn from_slice(alloc: Global, bytes: &[u8]) -> Result<Blob, AllocError>
         ensures { IfOk result (λ b. b ≡ bytes.now) }
     {
-        Ok(Blob {
-            bytes: Bytes::copy_from_slice(alloc, bytes)?,
-        })
+        if bytes.is_empty() {
+            return Ok(Blob::empty());
+        }
+        let mut block = Vec::with_capacity(alloc, bytes.len())?;
+        block.extend_from_slice(bytes)?;
+        match Blob::from_vec(block) {
+            Ok(blob) => Ok(blob),
+            Err(_) => Err(AllocError),
+        }
     }
 
-    /// Returns the bytes of a vector, whose block it takes: none is copied. Only the count of those who share them
-    /// takes memory, a few bytes; where these can't be had, the vector is handed back.
+    /// Returns the bytes of a vector. It takes the vector's block, and copies no byte.
+    ///
+    /// # Errors
+    ///
+    /// The vector, if there is no memory for the count of the bytes' owners.
     pub fn from_vec(bytes: Vec<u8>) -> Result<Blob, AllocFailed<Vec<u8>>>
         ensures ok { IfOk result (λ b. b ≡ bytes.items) }
         ensures back { IfErr result (λ e. e.value.items ≡ bytes.items) }
     {
-        match Bytes::from_vec(bytes) {
-            Ok(bytes) => Ok(Blob { bytes }),
-            Err(error) => Err(error),
-        }
+        Blob::from_vec_after(bytes, 0)
     }
 
-    /// Leaves out the first `n` bytes; none is moved.
-    pub fn discard(&mut self, n: usize)
-        requires { n ≤ length self.old }
-        ensures { self.new ≡ drop n self.old }
+    /// Returns the bytes of a vector after its first `front`, in the same way.
+    ///
+    /// # Errors
+    ///
+    /// The vector, if there is no memory for the count of the bytes' owners.
+    pub fn from_vec_after(bytes: Vec<u8>, front: usize) -> Result<Blob, AllocFailed<Vec<u8>>>
+        requires { front ≤ length bytes.items }
+        ensures ok { IfOk result (λ b. b ≡ drop front bytes.items) }
+        ensures back { IfErr result (λ e. e.value.items ≡ bytes.items) }
     {
-        self.bytes.advance(n);
+        let alloc = *bytes.allocator();
+        match Arc::new(
+            alloc,
+            Block {
+                bytes,
+                start: front,
+            },
+        ) {
+            Ok(block) => Ok(Blob { block: Some(block) }),
+            Err(AllocFailed { value }) => Err(AllocFailed {
+                value: value.into_bytes(),
+            }),
+        }
     }
 
     /// Returns the bytes.
     pub fn as_slice(&self) -> &[u8]
         ensures { result.now ≡ self.now }
     {
-        self.bytes.as_slice()
+        match &self.block {
+            Some(block) => block.as_slice(),
+            None => &[],
+        }
     }
 
     /// Returns whether both have equal bytes.
@@ -99,16 +158,20 @@ impl Blob {
     ///
     /// # Errors
     ///
-    /// If memory runs out.
+    /// If the count of their owners is at its greatest.
     ///
     /// # Cost
     ///
-    /// Doesn't depend on the number of bytes. Takes a few bytes for the count of owners.
+    /// Doesn't depend on the number of bytes. Takes no memory.
     pub fn copy(&self) -> Result<Blob, AllocError>
         ensures { IfOk result (λ b. b ≡ self.now) }
     {
+        let Some(block) = &self.block else {
+            return Ok(Blob::empty());
+        };
+        let shared = Arc::try_clone(block)?;
         Ok(Blob {
-            bytes: self.bytes.clone()?,
+            block: Some(shared),
         })
     }
 }
@@ -120,15 +183,18 @@ impl Blob {
 /// The list of its bytes.
 #[derive(Drop)]
 pub struct Text {
-    text: ByteStr,
+    bytes: Blob,
 }
 
 impl Model for Text {
     ghost use Rattle.std.specs.Prelude.{List, ℕ};
+    ghost use Rattle.std.specs.Str.{IsUtf8};
 
     ghost Value = { List ℕ };
 
-    ghost view = { λ t. t.text };
+    ghost view = { λ t. t.bytes };
+
+    ghost invariant = { λ t. IsUtf8 t.bytes };
 }
 
 impl Text {
@@ -140,61 +206,55 @@ impl Text {
     pub fn from_str(alloc: Global, text: &str) -> Result<Text, AllocError>
         ensures { IfOk result (λ t. t ≡ text.now) }
     {
-        Ok(Text {
-            text: ByteStr::copy_from_str(alloc, text)?,
-        })
+        let bytes = Blob::from_slice(alloc, text.as_bytes())?;
+        Ok(Text { bytes })
     }
 
     /// Returns a text that is made of these bytes, which are UTF-8, and shares them.
     ///
     /// # Errors
     ///
-    /// If memory runs out.
+    /// If the count of their owners is at its greatest.
     pub fn from_blob(bytes: &Blob) -> Result<Text, AllocError>
         requires { IsTrue (is_utf8 bytes.now) }
         ensures { IfOk result (λ t. t ≡ bytes.now) }
     {
-        let shared = bytes.bytes.clone()?;
-        Ok(Text {
-            text: ByteStr::from_known_utf8(shared),
-        })
+        let bytes = bytes.copy()?;
+        Ok(Text { bytes })
     }
 
     /// Returns the text, lent.
     pub fn as_str(&self) -> &str
         ensures { result.now ≡ self.now }
     {
-        self.text.as_str()
+        unsafe { std::str::from_utf8_unchecked(self.bytes.as_slice()) }
     }
 
     /// Returns its bytes, which it shares.
     ///
     /// # Errors
     ///
-    /// If memory runs out.
+    /// If the count of their owners is at its greatest.
     pub fn to_blob(&self) -> Result<Blob, AllocError>
         ensures { IfOk result (λ b. b ≡ self.now) }
     {
-        Ok(Blob {
-            bytes: self.text.as_bytes().clone()?,
-        })
+        self.bytes.copy()
     }
 
     /// Returns an equal one, which shares the text.
     ///
     /// # Errors
     ///
-    /// If memory runs out.
+    /// If the count of its owners is at its greatest.
     ///
     /// # Cost
     ///
-    /// Doesn't depend on the length.
+    /// Doesn't depend on the length. Takes no memory.
     pub fn copy(&self) -> Result<Text, AllocError>
         ensures { IfOk result (λ t. t ≡ self.now) }
     {
-        Ok(Text {
-            text: self.text.clone()?,
-        })
+        let bytes = self.bytes.copy()?;
+        Ok(Text { bytes })
     }
 }
 
@@ -243,7 +303,7 @@ impl TwoTexts {
 #[derive(Clone, Copy)]
 pub struct Short {
     bytes: [u8; 34],
-    len: usize,
+    len: u8,
 }
 
 impl Model for Short {
@@ -271,7 +331,10 @@ impl Short {
         let mut kept = [0u8; 34];
         let len = bytes.len();
         kept[..len].copy_from_slice(bytes);
-        Short { bytes: kept, len }
+        Short {
+            bytes: kept,
+            len: len as u8,
+        }
     }
 
     /// Returns the bytes, at most 34.
@@ -279,7 +342,7 @@ impl Short {
         ensures value { result.now ≡ self.now }
         ensures short { length result.now ≤ 34 }
     {
-        &self.bytes[..self.len]
+        &self.bytes[..self.len as usize]
     }
 }
 

@@ -8,6 +8,7 @@ use Rattle.std.specs.List.{AllByRecursion, list_all}
 use Rattle.std.proofs.lemmas.Bool.{true≢false}
 use Rattle.std.proofs.lemmas.Bool.Decides.{nat_tests}
 use Rattle.std.proofs.lemmas.List.{length-map}
+use Rattle.std.proofs.lemmas.Option.{same_Some}
 use Rattle.cr_base.specs.declared.command.Call.{Call}
 use Rattle.cr_base.specs.declared.command.Command.{Command}
 use Rattle.cr_base.specs.declared.command.Command.TheVariants as commands
@@ -51,7 +52,7 @@ use Rattle.cr_beginnings.proofs.BeginningCalls.{registered-there, named-once, de
 use Rattle.cr_beginnings.proofs.BeginningLaws.{unfinished, AreBehind, IsBeginning, drawn-unbroken, drawn-judged, drawn-group}
 use Rattle.cr_beginnings.proofs.BeginningUsers.{new-besides}
 use Rattle.cr_beginnings.proofs.GroupLegal.{MayAdd}
-use Rattle.cr_beginnings.proofs.GroupRows.{bounded-stamp, some_is}
+use Rattle.cr_beginnings.proofs.GroupRows.{bounded-stamp}
 
 -- ---- within the bounds
 
@@ -186,7 +187,7 @@ module _ (H : History) (legal : Legal H) where
   tells : (stamp : Stamp) (e : Entry) (command : ResolvedCommand) → command_of e ≡ Some command
       → (d : IsDrawn t stamp e) → Tells stamp command e
   tells stamp e command is d =
-      subst (λ (c : ResolvedCommand). Tells stamp c e) (some_is d.command command (sym d.told ∙ is))
+      subst (λ (c : ResolvedCommand). Tells stamp c e) (same_Some d.command command (sym d.told ∙ is))
       (record { none = drawn-unbroken t stamp e d; maker = d.maker; first = d.first })
 
   -- ---- a registration

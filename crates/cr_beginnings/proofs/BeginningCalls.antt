@@ -5,10 +5,10 @@ use Rattle.std.proofs.Common.{ℕ, Bool, true, false, cond, ◌≡◌, ◌≤◌
 use Rattle.std.proofs.Common.{zero, suc, refl, sym, ap, subst, ◌∙◌, arith, Option, Some, None, Result, Ok}
 use Rattle.std.specs.Prelude.{is_some, is_none, map, nat_lt, nat_le}
 use Rattle.std.specs.List.{AllByRecursion, list_all, list_any, find, flat_map}
-use Rattle.std.specs.Option.{option_map}
 use Rattle.std.proofs.lemmas.Bool.{and_parts, not-false, true≢false}
 use Rattle.std.proofs.lemmas.Bool.Decides.{nat_tests}
 use Rattle.std.proofs.lemmas.List.{length-map}
+use Rattle.std.proofs.lemmas.Option.{none-some}
 use Rattle.cr_base.specs.declared.command.Call.{Call}
 use Rattle.cr_base.specs.declared.command.Command.{Command}
 use Rattle.cr_base.specs.declared.command.Command.TheVariants as commands
@@ -39,6 +39,7 @@ use Rattle.cr_base.proofs.ByNames.{NamedOnce}
 use Rattle.cr_base.proofs.CheckLaws.{NoneBroken, judged-Ok, judged-none}
 use Rattle.cr_base.proofs.ListLaws.{name_in-lines_of}
 use Rattle.cr_base.proofs.ResolvingLaws.{AddsOne, AddsIt, IsLone, adds-it, lone-told}
+use Rattle.cr_base.proofs.Small.{is_some-option_map}
 use Rattle.cr_history.specs.Invariants.{IsRegistered}
 use Rattle.cr_history.proofs.LineAgreement.{accounts_of-tables}
 use Rattle.cr_policy.specs.Judge.{judge}
@@ -52,9 +53,6 @@ use Rattle.cr_beginnings.proofs.BeginningAuthors.{coauthors, users-behind, users
 use Rattle.cr_beginnings.proofs.BeginningLaws.{unfinished, IsBeginning}
 use Rattle.cr_beginnings.proofs.BeginningUsers.{AreNew, besides-all, besides-few, besides-new}
 
-none_some : {A : Type 0} (x : A) → None ≡ Some x → ⊥
-none_some x e = cc (e)
-
 -- ---- who is there
 
 any-found : {A : Type 0} (test : A → Bool) (xs : List A) → list_any test xs ≡ is_some (find test xs)
@@ -65,10 +63,6 @@ any-found test (x ∷ xs) = by (test x) (any-found test xs)
         → (b || list_any test xs) ≡ is_some (cond b (Some x) (find test xs))
     by true h = refl
     by false h = h
-
-some-mapped : {A B : Type 0} (f : A → B) (o : Option A) → is_some (option_map f o) ≡ is_some o
-some-mapped f None = refl
-some-mapped f (Some x) = refl
 
 any-line : (H : History) (user : ℕ) (rs : List Registration) → list_any (λ (r : Registration). eqb r.user user) rs
     ≡ list_any (λ (a : AccountLine). eqb a.user user)
@@ -85,7 +79,7 @@ registered-there H user legal =
     any-line H user (all_told registration_told H)
     ∙ ap (list_any (λ (a : AccountLine). eqb a.user user)) (accounts_of-tables H (Legal-fits H legal))
     ∙ any-found (λ (a : AccountLine). eqb a.user user) lines
-    ∙ sym (some-mapped (λ (a : AccountLine). a.role) (find (λ (a : AccountLine). eqb a.user user) lines))
+    ∙ sym (is_some-option_map (λ (a : AccountLine). a.role) (find (λ (a : AccountLine). eqb a.user user) lines))
 
 -- and is found by the name that she has
 pub named-once : (H : History) → Legal H → NamedOnce (lines_of (tables_of H).accounts)
@@ -381,7 +375,7 @@ module _ (H : History) (legal : Legal H) where
           → IsKeyOf caller key → Accepts call.at drawn caller key (commands.Register name digest) → IsAdded H drawn.group
       registers None name digest None is keyed accepted = register-begins call.at name digest drawn accepted
       registers None name digest (Some key) is keyed accepted = absurd keyed
-      registers (Some user) name digest key is keyed accepted = absurd (none_some user (sym is))
+      registers (Some user) name digest key is keyed accepted = absurd (none-some user (sym is))
 
       by : (caller : Option ℕ) (command : Command) (key : Option RetryKey) → IsCaller H caller command
           → IsBoundedCommand command → IsKeyOf caller key → IsNewKey H caller key → Accepts call.at drawn caller key command

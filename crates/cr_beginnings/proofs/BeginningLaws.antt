@@ -5,7 +5,6 @@ use Rattle.std.proofs.Common.{ℕ, Bool, true, false, ◌≡◌, ◌≤◌, ◌+
 use Rattle.std.proofs.Common.{subst, ◌∙◌, arith, append_assoc, append-nil, length-append, Some, Ok}
 use Rattle.std.specs.Prelude.{map, nat_lt, Result}
 use Rattle.std.specs.List.{AllByRecursion}
-use Rattle.std.proofs.lemmas.Bool.Decides.{nat_tests}
 use Rattle.std.proofs.lemmas.List.{length-map}
 use Rattle.cr_base.specs.declared.entry.Entry.{Entry}
 use Rattle.cr_base.specs.declared.entry.Stamp.{Stamp}
@@ -20,6 +19,7 @@ use Rattle.cr_base.specs.Rows.{IsBoundedEntry}
 use Rattle.cr_base.specs.Sources.{facts_of_tables, shown_in_tables}
 use Rattle.cr_base.specs.Tables.{Tables, tables_of}
 use Rattle.cr_base.proofs.CheckLaws.{NoneBroken, judged-Ok, judged-none}
+use Rattle.cr_base.proofs.Small.{nat_lt-trans}
 use Rattle.cr_beginnings.specs.Beginnings.{IsDrawn, IsFirst, IsBehind, IsDue, AreDue, HasMore, may_count, most_entries}
 
 -- ---- marks
@@ -188,9 +188,6 @@ due-begins H s es due = by es due.1
 
 -- ---- a beginning is due
 
-below : (k n most : ℕ) → k ≤ n → nat_lt n most ≡ true → nat_lt k most ≡ true
-below k n most le lt = grind (arith, nat_tests, le, lt)
-
 module _ (H : History) (stamp : Stamp) (first : Entry) (more : Bool) where
   -- the last of its entries, and those before
   spread : (before : List Entry) (e : Entry) (after : List Entry)
@@ -220,7 +217,7 @@ module _ (H : History) (stamp : Stamp) (first : Entry) (more : Bool) where
       turn = (
         refl,
         are.0,
-        below (length (map (unfinished stamp) before) + 2) (length (before ++ e ∷ next ∷ after))
+        nat_lt-trans (length (map (unfinished stamp) before) + 2) (length (before ++ e ∷ next ∷ after))
             (most_entries (tables_of H) stamp.maker first) fewer room,
       );
     },
@@ -257,7 +254,7 @@ begins-due H stamp first (e ∷ behind) more begun bounded = (
     bounded = bounded.0;
     turn = (
       begun.may,
-      below 1 (suc (length behind)) (most_entries (tables_of H) stamp.maker first) (omega arith)
+      nat_lt-trans 1 (suc (length behind)) (most_entries (tables_of H) stamp.maker first) (omega arith)
           (begun.room (omega arith)),
     );
   },
@@ -272,8 +269,8 @@ pub front-begins : (H : History) (stamp : Stamp) (first : Entry) (front : List E
 front-begins H stamp first front e after more begun = record {
   may = begun.may;
   behind_are = behind-front (tables_of H) stamp first [] front (e ∷ after) begun.behind_are;
-  room = λ some. below (length front) (length (front ++ e ∷ after)) most (omega (arith, n)) all;
-  count = below (length front + 1) (length (front ++ e ∷ after)) most (omega (arith, n)) all;
+  room = λ some. nat_lt-trans (length front) (length (front ++ e ∷ after)) most (omega (arith, n)) all;
+  count = nat_lt-trans (length front + 1) (length (front ++ e ∷ after)) most (omega (arith, n)) all;
 }
   where
     most : ℕ

@@ -8,6 +8,7 @@ use Rattle.std.specs.List.{AllByRecursion}
 use Rattle.std.specs.Option.{option_map}
 use Rattle.std.proofs.lemmas.Bool.{and_parts, not-true, true≢false}
 use Rattle.std.proofs.lemmas.Bool.Decides.{nat_tests}
+use Rattle.std.proofs.lemmas.Option.{same_Some}
 use Rattle.cr_base.specs.declared.bulk.Broken.{Broken}
 use Rattle.cr_base.specs.declared.bulk.Broken.TheVariants as broken
 use Rattle.cr_base.specs.declared.bulk.BulkRow.{BulkRow}
@@ -54,7 +55,7 @@ use Rattle.cr_beginnings.proofs.BeginningLaws.{unfinished, map-more, AreBehind, 
 use Rattle.cr_beginnings.proofs.BeginningLaws.{drawn-group, made}
 use Rattle.cr_beginnings.proofs.BulkParts.{Parts, bulk-parts, parts-bulk, err_ok, ok_is}
 use Rattle.cr_beginnings.proofs.GroupLegal.{MayAddRows, grouped-group}
-use Rattle.cr_beginnings.proofs.GroupRows.{bounded-stamp, some_is}
+use Rattle.cr_beginnings.proofs.GroupRows.{bounded-stamp}
 use Rattle.cr_beginnings.proofs.BulkSpelling.{Spelled, assign-spelled, unassign-spelled, conflict-spelled, tag-spelled}
 
 -- ---- the entries of rows, each behind those before it
@@ -125,16 +126,16 @@ pub record OfRows (P : Entry → ResolvedCommand → Type 0) : Type 0 where
 pub of-rows : (P : Entry → ResolvedCommand → Type 0) → OfRows P → (maker : ℕ) (e : Entry) (command : ResolvedCommand)
     → is_of_row maker e ≡ true → command_of e ≡ Some command → P e command
 of-rows P of maker (entries.Conflict p v on) command is told =
-    subst (P (entries.Conflict p v on)) (some_is (resolved.SetConflict (Some p) (Some v) on) command told)
+    subst (P (entries.Conflict p v on)) (same_Some (resolved.SetConflict (Some p) (Some v) on) command told)
     (of.conflict p v on)
 of-rows P of maker (entries.Assigned p v kind ordinal) command is told =
-    subst (P (entries.Assigned p v kind ordinal)) (some_is (resolved.Assign (Some p) (Some v) kind) command told)
+    subst (P (entries.Assigned p v kind ordinal)) (same_Some (resolved.Assign (Some p) (Some v) kind) command told)
     (of.assigned p v kind ordinal)
 of-rows P of maker (entries.Unassigned p v ordinal) command is told =
-    subst (P (entries.Unassigned p v ordinal)) (some_is (resolved.Unassign (Some p) (Some v)) command told)
+    subst (P (entries.Unassigned p v ordinal)) (same_Some (resolved.Unassign (Some p) (Some v)) command told)
     (of.unassigned p v ordinal)
 of-rows P of maker (entries.Tagged p tag on) command is told =
-    subst (P (entries.Tagged p tag on)) (some_is (resolved.Tag (Some p) tag on) command told) (of.tagged p tag on)
+    subst (P (entries.Tagged p tag on)) (same_Some (resolved.Tag (Some p) tag on) command told) (of.tagged p tag on)
 of-rows P of maker e command is told = absurd (true≢false (sym is))
 
 -- they may stand alone

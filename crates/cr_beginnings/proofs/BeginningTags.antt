@@ -6,8 +6,9 @@ use Rattle.std.proofs.Common.{eqb, refl, sym, ap, subst, ◌∙◌, arith, ◌||
 use Rattle.std.specs.Prelude.{is_none, is_some, map, nat_le, nat_lt, not}
 use Rattle.std.specs.List.{list_any}
 use Rattle.std.specs.Option.{option_map}
-use Rattle.std.proofs.lemmas.Bool.{not-true, true≢false}
+use Rattle.std.proofs.lemmas.Bool.{not-true, true≢false, or_parts}
 use Rattle.std.proofs.lemmas.Bool.Decides.{nat_tests}
+use Rattle.std.proofs.Math.Bool.{and-false}
 use Rattle.cr_base.specs.declared.entry.Entry.{Entry}
 use Rattle.cr_base.specs.declared.entry.Entry.TheVariants.{Conflict, Assigned, Unassigned, Tagged}
 use Rattle.cr_base.specs.declared.entry.Stamp.{Stamp}
@@ -187,14 +188,6 @@ drawn-clear t stamp e may of bounded d =
 
 -- ---- what stays behind a row
 
-either : (a b : Bool) → (a || b) ≡ false → (a ≡ false) × (b ≡ false)
-either true b h = absurd (true≢false h)
-either false b h = (refl, h)
-
-left-false : (b : Bool) → (b && false) ≡ false
-left-false true = refl
-left-false false = refl
-
 apart : (p user q v : ℕ) → eqb v user ≡ false → same_pair (pair_of p user) (pair_of q v) ≡ false
 apart p user q v h = grind (arith, nat_tests, h)
 
@@ -209,7 +202,7 @@ kept-clear t stamp (Conflict q v on) p of c = record {
     before : (is_author_in t.ties (Some stamp.maker) p ≡ false)
         × (has_pair (pair_of p stamp.maker) t.ties.conflicts ≡ false)
     before =
-        either (is_author_in t.ties (Some stamp.maker) p) (has_pair (pair_of p stamp.maker) t.ties.conflicts) c.clear
+        or_parts (is_author_in t.ties (Some stamp.maker) p) (has_pair (pair_of p stamp.maker) t.ties.conflicts) c.clear
 
     other : same_pair (pair_of p stamp.maker) (pair_of q v) ≡ false
     other = apart p stamp.maker q v (not-true (eqb v stamp.maker) of)
@@ -218,7 +211,7 @@ kept-clear t stamp (Conflict q v on) p of c = record {
     by true = has_pair-with_tie ByPaper (pair_of p stamp.maker) (bare_tie q v) t.ties.conflicts
         ∙ ap (λ (b : Bool). b || has_pair (pair_of p stamp.maker) t.ties.conflicts) other ∙ before.1
     by false = has_pair-without_pair (pair_of p stamp.maker) (pair_of q v) t.ties.conflicts
-        ∙ ap (λ (b : Bool). not (same_pair (pair_of p stamp.maker) (pair_of q v)) && b) before.1 ∙ left-false _
+        ∙ ap (λ (b : Bool). not (same_pair (pair_of p stamp.maker) (pair_of q v)) && b) before.1 ∙ and-false _
 kept-clear t stamp (Assigned q v kind ordinal) p of c =
     record { there = c.there; clear = c.clear; standing = c.standing }
 kept-clear t stamp (Unassigned q v ordinal) p of c = record { there = c.there; clear = c.clear; standing = c.standing }

@@ -18,9 +18,6 @@ use Rattle.cr_beginnings.specs.Beginnings.{IsGroup}
 
 -- ---- rows
 
-pub some_is : {A : Type 0} (x y : A) → Some x ≡ Some y → x ≡ y
-some_is x y e = cc (e)
-
 pub head_is : {A : Type 0} (x y : A) (xs ys : List A) → x ∷ xs ≡ y ∷ ys → x ≡ y
 head_is x y xs ys e = cc (e)
 

@@ -1,6 +1,6 @@
 -- SPDX-License-Identifier: Apache-2.0 OR MIT
--- The mark of a request, which tells a repeat from another request with the same number (Keys): the SHA-256 digest of its
--- method, its path and its body (FIPS 180-4, section 6.2).
+-- The mark of a request, which tells a repeat from another request with the same number (Keys): the SHA-256 digest of
+-- its method, its path and its body (FIPS 180-4, section 6.2).
 use Rattle.std.specs.Prelude.{ℕ, List, ◌∷◌, ◌++◌}
 use Rattle.sha2.specs.Sha256.{sha256}
 

@@ -14,7 +14,7 @@ use crate::field::{
     Grammar, bid, decision, digest, flag, grade, kind, mode, name, names, phase, role, tested, user,
 };
 use crate::until::{deadline_phase, until};
-use cr_base::{Ask, Command, DecodeError, Form, PaperNo, Text};
+use cr_base::{Command, DecodeError, Form, PaperNo, Task, Text};
 use serde_json::Value;
 use std::alloc::Global;
 
@@ -31,7 +31,7 @@ fn read_json(alloc: Global, body: &[u8]) -> Result<Value, DecodeError>
 
 /// Returns the registration that a JSON value tells.
 fn registration(body: &Value) -> Result<Command, DecodeError>
-    ensures told { Decodes result (command_in_text Ask.Register None (view body.now)) }
+    ensures told { Decodes result (command_in_text Task.Register None (view body.now)) }
     ensures bounded { IfOk result IsBoundedCommand }
 {
     let name = name(body, "name")?;
@@ -41,7 +41,7 @@ fn registration(body: &Value) -> Result<Command, DecodeError>
 
 /// Returns the naming of a member or a chair that a JSON value tells.
 fn naming(body: &Value) -> Result<Command, DecodeError>
-    ensures told { Decodes result (command_in_text Ask.Name None (view body.now)) }
+    ensures told { Decodes result (command_in_text Task.Name None (view body.now)) }
     ensures bounded { IfOk result IsBoundedCommand }
 {
     let user = user(body, "name")?;
@@ -51,7 +51,7 @@ fn naming(body: &Value) -> Result<Command, DecodeError>
 
 /// Returns the deadline that a JSON value tells.
 fn deadline(body: &Value) -> Result<Command, DecodeError>
-    ensures told { Decodes result (command_in_text Ask.SetDeadline None (view body.now)) }
+    ensures told { Decodes result (command_in_text Task.SetDeadline None (view body.now)) }
     ensures bounded { IfOk result IsBoundedCommand }
 {
     let phase = deadline_phase(body, "phase")?;
@@ -61,7 +61,7 @@ fn deadline(body: &Value) -> Result<Command, DecodeError>
 
 /// Returns the submission that a JSON value tells.
 fn submission(alloc: Global, body: &Value) -> Result<Command, DecodeError>
-    ensures told { Decodes result (command_in_text Ask.Submit None (view body.now)) }
+    ensures told { Decodes result (command_in_text Task.Submit None (view body.now)) }
     ensures bounded { IfOk result IsBoundedCommand }
 {
     let title = tested(body, "title", Grammar::Title)?;
@@ -78,7 +78,7 @@ fn submission(alloc: Global, body: &Value) -> Result<Command, DecodeError>
 
 /// Returns the revision that a JSON value tells.
 fn revision(alloc: Global, paper: Option<PaperNo>, body: &Value) -> Result<Command, DecodeError>
-    ensures told { Decodes result (command_in_text Ask.Revise paper (view body.now)) }
+    ensures told { Decodes result (command_in_text Task.Revise paper (view body.now)) }
     ensures bounded { IfOk result IsBoundedCommand }
 {
     let title = tested(body, "title", Grammar::Title)?;
@@ -94,7 +94,7 @@ fn revision(alloc: Global, paper: Option<PaperNo>, body: &Value) -> Result<Comma
 
 /// Returns the conflict that a JSON value tells.
 fn conflict(paper: Option<PaperNo>, body: &Value) -> Result<Command, DecodeError>
-    ensures told { Decodes result (command_in_text Ask.SetConflict paper (view body.now)) }
+    ensures told { Decodes result (command_in_text Task.SetConflict paper (view body.now)) }
     ensures bounded { IfOk result IsBoundedCommand }
 {
     let on = flag(body, "on")?;
@@ -104,7 +104,7 @@ fn conflict(paper: Option<PaperNo>, body: &Value) -> Result<Command, DecodeError
 
 /// Returns the bid that a JSON value tells.
 fn bidding(paper: Option<PaperNo>, body: &Value) -> Result<Command, DecodeError>
-    ensures told { Decodes result (command_in_text Ask.Bid paper (view body.now)) }
+    ensures told { Decodes result (command_in_text Task.Bid paper (view body.now)) }
     ensures bounded { IfOk result IsBoundedCommand }
 {
     let value = bid(body, "bid")?;
@@ -113,7 +113,7 @@ fn bidding(paper: Option<PaperNo>, body: &Value) -> Result<Command, DecodeError>
 
 /// Returns the assignment that a JSON value tells.
 fn assignment(paper: Option<PaperNo>, body: &Value) -> Result<Command, DecodeError>
-    ensures told { Decodes result (command_in_text Ask.Assign paper (view body.now)) }
+    ensures told { Decodes result (command_in_text Task.Assign paper (view body.now)) }
     ensures bounded { IfOk result IsBoundedCommand }
 {
     let kind = kind(body, "kind")?;
@@ -123,7 +123,7 @@ fn assignment(paper: Option<PaperNo>, body: &Value) -> Result<Command, DecodeErr
 
 /// Returns the invitation that a JSON value tells.
 fn invitation(paper: Option<PaperNo>, body: &Value) -> Result<Command, DecodeError>
-    ensures told { Decodes result (command_in_text Ask.Invite paper (view body.now)) }
+    ensures told { Decodes result (command_in_text Task.Invite paper (view body.now)) }
     ensures bounded { IfOk result IsBoundedCommand }
 {
     let user = user(body, "user")?;
@@ -132,7 +132,7 @@ fn invitation(paper: Option<PaperNo>, body: &Value) -> Result<Command, DecodeErr
 
 /// Returns the review that a JSON value tells.
 fn review(alloc: Global, paper: Option<PaperNo>, body: &Value) -> Result<Command, DecodeError>
-    ensures told { Decodes result (command_in_text Ask.Review paper (view body.now)) }
+    ensures told { Decodes result (command_in_text Task.Review paper (view body.now)) }
     ensures bounded { IfOk result IsBoundedCommand }
 {
     let score = grade(body, "score")?;
@@ -154,7 +154,7 @@ fn review(alloc: Global, paper: Option<PaperNo>, body: &Value) -> Result<Command
 
 /// Returns the response that a JSON value tells.
 fn response(alloc: Global, paper: Option<PaperNo>, body: &Value) -> Result<Command, DecodeError>
-    ensures told { Decodes result (command_in_text Ask.Respond paper (view body.now)) }
+    ensures told { Decodes result (command_in_text Task.Respond paper (view body.now)) }
     ensures bounded { IfOk result IsBoundedCommand }
 {
     let text = tested(body, "text", Grammar::CommentText)?;
@@ -164,7 +164,7 @@ fn response(alloc: Global, paper: Option<PaperNo>, body: &Value) -> Result<Comma
 
 /// Returns the comment that a JSON value tells.
 fn comment(alloc: Global, paper: Option<PaperNo>, body: &Value) -> Result<Command, DecodeError>
-    ensures told { Decodes result (command_in_text Ask.Comment paper (view body.now)) }
+    ensures told { Decodes result (command_in_text Task.Comment paper (view body.now)) }
     ensures bounded { IfOk result IsBoundedCommand }
 {
     let text = tested(body, "text", Grammar::CommentText)?;
@@ -176,47 +176,39 @@ fn comment(alloc: Global, paper: Option<PaperNo>, body: &Value) -> Result<Comman
 /// value a member. Only texts take memory, and the names of a submission's other authors.
 fn command_in(
     alloc: Global,
-    ask: Ask,
+    task: Task,
     paper: Option<PaperNo>,
     body: &Value,
 ) -> Result<Command, DecodeError>
-    ensures told { Decodes result (command_in_text ask paper (view body.now)) }
+    ensures told { Decodes result (command_in_text task paper (view body.now)) }
     ensures bounded { IfOk result IsBoundedCommand }
 {
-    match ask {
-        Ask::Register => registration(body),
-        Ask::Name => naming(body),
-        Ask::SetMode => {
+    match task {
+        Task::Register => registration(body),
+        Task::Name => naming(body),
+        Task::SetMode => {
             let mode = mode(body, "mode")?;
             Ok(Command::SetMode { mode })
         }
-        Ask::SetPhase => {
+        Task::SetPhase => {
             let phase = phase(body, "phase")?;
             Ok(Command::SetPhase { phase })
         }
-        Ask::SetDeadline => deadline(body),
-        Ask::Submit => submission(alloc, body),
-        Ask::Revise => revision(alloc, paper, body),
-        Ask::SetConflict => conflict(paper, body),
-        Ask::Bid => bidding(paper, body),
-        Ask::Assign => assignment(paper, body),
-        Ask::Invite => invitation(paper, body),
-        Ask::Review => review(alloc, paper, body),
-        Ask::Respond => response(alloc, paper, body),
-        Ask::Comment => comment(alloc, paper, body),
-        Ask::Decide => {
+        Task::SetDeadline => deadline(body),
+        Task::Submit => submission(alloc, body),
+        Task::Revise => revision(alloc, paper, body),
+        Task::SetConflict => conflict(paper, body),
+        Task::Bid => bidding(paper, body),
+        Task::Assign => assignment(paper, body),
+        Task::Invite => invitation(paper, body),
+        Task::Review => review(alloc, paper, body),
+        Task::Respond => response(alloc, paper, body),
+        Task::Comment => comment(alloc, paper, body),
+        Task::Decide => {
             let decision = decision(body, "decision")?;
             Ok(Command::Decide { paper, decision })
         }
-        Ask::Accounts | Ask::Phase | Ask::AcceptedPapers | Ask::Page => Err(DecodeError::Malformed),
-        Ask::Deadlines | Ask::Me | Ask::Search | Ask::Withdraw => Err(DecodeError::Malformed),
-        Ask::Content | Ask::Upload | Ask::Version | Ask::Tag => Err(DecodeError::Malformed),
-        Ask::Unassign | Ask::Reviews | Ask::Comments | Ask::Untag => Err(DecodeError::Malformed),
-        Ask::Dismiss | Ask::Uninvite | Ask::Response => Err(DecodeError::Malformed),
-        Ask::Bulk | Ask::PapersReport | Ask::ScoresReport => Err(DecodeError::Malformed),
-        Ask::LoadReport | Ask::DecisionsReport | Ask::Letter | Ask::Plan => Err(
-            DecodeError::Malformed,
-        ),
+        _ => Err(DecodeError::Malformed),
     }
 }
 
@@ -225,8 +217,8 @@ fn command_in(
 /// # Errors
 ///
 /// - `Malformed`: exactly if the body is no JSON object with the members that such a request must have, unless memory
-///   runs out. So it is for requests without a JSON body: a query, an upload, a withdrawal, a dismissal, an
-///   unassignment, an uninvitation, a tag, a bulk.
+///   runs out. So it is for tasks without a JSON body: an upload, a withdrawal, a dismissal, an unassignment, an
+///   uninvitation, a tag.
 /// - Lack of memory.
 ///
 /// # Cost
@@ -234,13 +226,13 @@ fn command_in(
 /// Reads the body once.
 pub fn read_command(
     alloc: Global,
-    ask: Ask,
+    task: Task,
     paper: Option<PaperNo>,
     body: &[u8],
 ) -> Result<Command, DecodeError>
-    ensures told { Decodes result (command_read ask paper body.now) }
+    ensures told { Decodes result (command_read task paper body.now) }
     ensures bounded { IfOk result IsBoundedCommand }
 {
     let value = read_json(alloc, body)?;
-    command_in(alloc, ask, paper, &value)
+    command_in(alloc, task, paper, &value)
 }

@@ -1,9 +1,8 @@
 -- SPDX-License-Identifier: Apache-2.0 OR MIT
 -- A rule that a query breaks is its answer.
-use Rattle.std.proofs.Common.{ℕ, ◌≡◌, ◌≢◌, Option, Result, Ok, Err, ap, subst, sym}
+use Rattle.std.proofs.Common.{ℕ, ◌≡◌, ◌≢◌, Option, Result, Err, ap, subst, sym}
 use Rattle.cr_base.specs.declared.command.Query.{Query}
 use Rattle.cr_base.specs.declared.command.Query.TheVariants as queries
-use Rattle.cr_base.specs.declared.reply.Reply.{Reply}
 use Rattle.cr_base.specs.declared.reply.Reply.TheVariants as replies
 use Rattle.cr_base.specs.declared.reply.Rule.{Rule}
 use Rattle.cr_base.specs.Answering.{answer_by_role, query_checks, reply_or_rule, told_by}

@@ -14,8 +14,7 @@ use Rattle.cr_base.specs.HistoryFacts.{number_of, caller_of}
 use Rattle.cr_base.specs.declared.command.Query.{Query}
 use Rattle.cr_base.specs.declared.command.Query.TheVariants as queries
 use Rattle.cr_base.specs.declared.report.Report.{Report}
-use Rattle.cr_base.specs.declared.report.Report.TheVariants as reports
-use Rattle.cr_base.specs.declared.search.Step.{Step}
+use Rattle.cr_base.specs.declared.search.Node.{Node}
 use Rattle.cr_base.specs.Bulk.{bulk_by_role, bulk_drawn, entries_of}
 use Rattle.cr_base.specs.Answering.{answer_by_role, login_wanted}
 use Rattle.cr_base.specs.Calls.{BulkCall}
@@ -39,7 +38,7 @@ use Rattle.cr_book.specs.Sound.{Acts, IsSound}
 
 -- it is no search, no report and no plan, which have crates of their own
 pub record IsOther (query : Query) : Type 0 where
-  pub search : (search : List Step) (only_count : Bool) → query ≢ queries.Search search only_count
+  pub search : (search : List Node) (only_count : Bool) → query ≢ queries.Search search only_count
   pub report : (report : Report) → query ≢ queries.Report report
   pub plan : (per_paper load : ℕ) → query ≢ queries.Plan per_paper load
 
@@ -63,7 +62,7 @@ asker-there h caller (queries.Report report) other may = absurd (other.report re
 asker-there h caller (queries.Plan per_paper load) other may = absurd (other.plan per_paper load refl)
 
 -- whoever may search has registered
-pub searcher-there : (h : History) (caller : Option ℕ) (search : List Step) (only_count : Bool)
+pub searcher-there : (h : History) (caller : Option ℕ) (search : List Node) (only_count : Bool)
     → MayAsk h (needs_login (view None h) (queries.Search search only_count)) caller → IsSome caller
 searcher-there h None search only_count may = cc
 searcher-there h (Some u) search only_count may = refl
@@ -71,15 +70,11 @@ searcher-there h (Some u) search only_count may = refl
 -- and so has whoever may have a report
 pub reporter-there : (h : History) (caller : Option ℕ) (report : Report)
     → MayAsk h (needs_login (view None h) (queries.Report report)) caller → IsSome caller
-reporter-there h None reports.Papers may = cc
-reporter-there h None reports.Scores may = cc
-reporter-there h None reports.Load may = cc
-reporter-there h None reports.Decisions may = cc
-reporter-there h None (reports.Letter paper) may = cc
+reporter-there h None report may = cc
 reporter-there h (Some u) report may = refl
 
 -- what a search is told is no refusal
-pub searched-no_refusal : (t : Tables) (caller : Option ℕ) (search : List Step) (only_count : Bool)
+pub searched-no_refusal : (t : Tables) (caller : Option ℕ) (search : List Node) (only_count : Bool)
     → IsNoRefusal (answer_by_role t caller (queries.Search search only_count))
 searched-no_refusal t caller search true = λ rule e. absurd (cc)
 searched-no_refusal t caller search false = λ rule e. absurd (cc)

@@ -1,14 +1,13 @@
 -- SPDX-License-Identifier: Apache-2.0 OR MIT
 -- What is judged of an entry that is read: it is drawn where its command is accepted and draws an entry of the same
 -- maker with the same numbers, and else it isn't.
-use Rattle.std.proofs.Common.{ℕ, Bool, true, false, cond, ◌≡◌, List, [], ◌∷◌, ◌++◌, refl, sym, ap, subst, ◌∙◌, Option}
+use Rattle.std.proofs.Common.{ℕ, Bool, true, false, cond, ◌≡◌, List, [], ◌∷◌, refl, sym, ap, subst, ◌∙◌, Option}
 use Rattle.std.proofs.Common.{Some, None, Result, Ok, Err, IfSome, arith, drop, eqb, length, ◌+◌, ◌&&◌, ◌||◌, ◌==◌}
 use Rattle.std.specs.Prelude.{slice_get, IsSome, IsTrue, ◌↔◌}
 use Rattle.std.specs.List.{list_any}
-use Rattle.std.specs.Option.{option_map}
 use Rattle.std.proofs.lemmas.Bool.{and_parts, eqb-true, true≢false}
-use Rattle.std.proofs.lemmas.Bool.Decides.{nat_tests}
 use Rattle.std.proofs.lemmas.List.Folds.{list_any-append}
+use Rattle.std.proofs.lemmas.Option.{same_Some, none-some}
 use Rattle.cr_base.specs.declared.entry.Entry.{Entry}
 use Rattle.cr_base.specs.declared.entry.Entry.TheVariants as entries
 use Rattle.cr_base.specs.declared.entry.Stamp.{Stamp}
@@ -37,20 +36,15 @@ use Rattle.cr_base.specs.Tables.{Tables, tables_from, tables_of}
 use Rattle.cr_base.specs.Words.{is_chair}
 use Rattle.cr_base.proofs.CheckLaws.{NoneBroken, judged-Ok, judged-none}
 use Rattle.cr_base.proofs.ResolvingLaws.{AddsIt, IsLone, adds-it, deed-tells, same-by-numbers}
+use Rattle.cr_base.proofs.Small.{eqb-self}
 use Rattle.cr_judge.specs.declared.effect.Effect.{Effect}
-use Rattle.cr_judge.specs.Effects.{behind, drawn_by, drawn_or_rule, first_of, stamp_in}
+use Rattle.cr_judge.specs.Effects.{behind, drawn_by, first_of, stamp_in}
 use Rattle.cr_judge.specs.Rows.{group_or_rule, row_group, row_resolved_at}
 use Rattle.cr_beginnings.specs.Beginnings.{coauthor_told, giver_told, is_of_row, may_count, InTurn, IsBehind, IsCoauthor, IsDrawn}
 use Rattle.cr_beginnings.specs.Beginnings.{IsNext, IsRowDrawn, MayBegin}
 use Rattle.cr_book.specs.Reading.{row_told, IfRows, TakenIf}
 use Rattle.cr_beginnings.proofs.BeginningLaws.{drawn-unbroken}
 use Rattle.cr_beginnings.proofs.BeginningRows.{IsRowResolved, row-entry, row-one, row-other}
-
-some_is : {A : Type 0} (x y : A) → Some x ≡ Some y → x ≡ y
-some_is x y e = cc (e)
-
-none_some : {A : Type 0} (x : A) → None ≡ Some x → ⊥
-none_some x e = cc (e)
 
 ok_err : {A B : Type 0} (x : A) (y : B) → ◌≡◌ {A = Result A B} (Ok x) (Err y) → ⊥
 ok_err x y e = cc (e)
@@ -63,11 +57,11 @@ ok_is x y e = cc (e)
 -- nothing was taken, or this was
 pub taken-none : {A : Type 0} (s : Stamped) (r : Option Stamped) → TakenIf A s r → r ≡ None → A → ⊥
 taken-none {A} s None h is = h
-taken-none {A} s (Some x) h is = absurd (none_some x (sym is))
+taken-none {A} s (Some x) h is = absurd (none-some x (sym is))
 
 pub taken-some : {A : Type 0} (s x : Stamped) (r : Option Stamped) → TakenIf A s r → r ≡ Some x → (x ≡ s) × A
-taken-some {A} s x None h is = absurd (none_some x is)
-taken-some {A} s x (Some y) h is = (sym (some_is y x is) ∙ h.0, h.1)
+taken-some {A} s x None h is = absurd (none-some x is)
+taken-some {A} s x (Some y) h is = (sym (same_Some y x is) ∙ h.0, h.1)
 
 -- where the one is so exactly where the other is
 pub taken-as : {A B : Type 0} (s : Stamped) (r : Option Stamped) → (A → B) → (B → A) → TakenIf A s r → TakenIf B s r
@@ -84,12 +78,12 @@ taken-when {A} b s r is told = subst (λ (o : Option Stamped). TakenIf A s o) (s
 
 -- the first of some
 pub head-first : (xs : History) (x : Stamped) → Some x ≡ slice_get xs 0 → xs ≡ x ∷ drop 1 xs
-head-first [] x is = absurd (none_some x (sym is))
-head-first (y ∷ ys) x is = ap (λ (z : Stamped). z ∷ ys) (sym (some_is x y is))
+head-first [] x is = absurd (none-some x (sym is))
+head-first (y ∷ ys) x is = ap (λ (z : Stamped). z ∷ ys) (sym (same_Some x y is))
 
 pub head-none : (xs : History) → None ≡ slice_get xs 0 → xs ≡ []
 head-none [] is = refl
-head-none (y ∷ ys) is = absurd (none_some y is)
+head-none (y ∷ ys) is = absurd (none-some y is)
 
 -- numbers that are an entry's
 pub numbers-are : (e f : Entry) (number : ℕ) (ordinal : Option ℕ) → number ≡ (drawn_numbers f).number
@@ -118,16 +112,13 @@ chair-named e named user role is = (
       let told : entries.Named named role ≡ entries.Named user Chair = sym is ∙ same in
       let who : named ≡ user = cc (told) in
       let what : role ≡ Chair = cc (told) in
-      (λ i. eqb (who i) user && is_chair (what i)) ∙ ap (λ (b : Bool). b && true) (itself user),
+      (λ i. eqb (who i) user && is_chair (what i)) ∙ ap (λ (b : Bool). b && true) (eqb-self user),
 )
   where
     chair-is : (role : Role) → is_chair role ≡ true → role ≡ Chair
     chair-is roles.Account h = absurd (true≢false (sym h))
     chair-is roles.Member h = absurd (true≢false (sym h))
     chair-is Chair h = refl
-
-    itself : (n : ℕ) → eqb n n ≡ true
-    itself n = grind (arith, nat_tests)
 
 pub chair-none : (e : Entry) (user : ℕ) → ((named : ℕ) (role : Role) → e ≡ entries.Named named role → ⊥)
     → IsTrue false ↔ (e ≡ entries.Named user Chair)
@@ -266,7 +257,7 @@ same-head s z e f (x ∷ es) (y ∷ fs) is = (ap (stamp_at s) is, ap (entry_at e
 
 -- no command, so none that draws it
 pub untold : (t : Tables) (next : Stamped) → command_of next.entry ≡ None → IsDrawn t next.stamp next.entry → ⊥
-untold t next none d = none_some d.command (sym none ∙ d.told)
+untold t next none d = none-some d.command (sym none ∙ d.told)
 
 module _ (t : Tables) (next : Stamped) (command : ResolvedCommand) (told : command_of next.entry ≡ Some command) where
   abbrev call : ResolvedCall
@@ -310,7 +301,7 @@ module _ (t : Tables) (next : Stamped) (command : ResolvedCommand) (told : comma
             command = c;
           })
           ≡ judge_resolved (facts_of_tables t (Some next.stamp.maker)) (shown_in_tables t) next.stamp c)
-          (some_is (resolved.Register name digest) command is) refl
+          (same_Some (resolved.Register name digest) command is) refl
       by e is = refl
 
   -- what draws it is this command, of which no rule is broken
@@ -323,7 +314,7 @@ module _ (t : Tables) (next : Stamped) (command : ResolvedCommand) (told : comma
       × ((deed_at (facts_of_tables t (Some next.stamp.maker)) (shown_in_tables t) next.stamp c).maker
       ≡ next.stamp.maker)
       × ((deed_at (facts_of_tables t (Some next.stamp.maker)) (shown_in_tables t) next.stamp c).first ≡ next.entry))
-      (some_is d.command command (sym d.told ∙ told))
+      (same_Some d.command command (sym d.told ∙ told))
       (drawn-unbroken t next.stamp next.entry d, d.maker, d.first)
 
   -- a broken rule draws nothing
@@ -398,14 +389,14 @@ row-ordinal (entries.Conflict paper user on) command told = refl
 row-ordinal (entries.Assigned paper user kind ordinal) command told = refl
 row-ordinal (entries.Unassigned paper user ordinal) command told = refl
 row-ordinal (entries.Tagged paper tag on) command told = refl
-row-ordinal e command told = absurd (none_some command told)
+row-ordinal e command told = absurd (none-some command told)
 
 row-told : (e : Entry) (command : ResolvedCommand) → row_told e ≡ Some command → command_of e ≡ Some command
 row-told (entries.Conflict paper user on) command told = told
 row-told (entries.Assigned paper user kind ordinal) command told = told
 row-told (entries.Unassigned paper user ordinal) command told = told
 row-told (entries.Tagged paper tag on) command told = told
-row-told e command told = absurd (none_some command told)
+row-told e command told = absurd (none-some command told)
 
 row-none : (maker : ℕ) (e : Entry) → row_told e ≡ None → is_of_row maker e ≡ false
 row-none maker (entries.Conflict paper user on) none = cc (none)

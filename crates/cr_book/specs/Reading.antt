@@ -1,8 +1,7 @@
 -- SPDX-License-Identifier: Apache-2.0 OR MIT
 -- What is true of rows that are being read, one after another.
-use Rattle.std.specs.Prelude.{ℕ, ◌≡◌, ◌++◌, List, [], ◌∷◌, Option, Some, None, IsTrue}
+use Rattle.std.specs.Prelude.{ℕ, ◌≡◌, ◌++◌, List, [], ◌∷◌, Option, Some, None}
 use Rattle.std.specs.List.{AllByRecursion}
-use Rattle.std.specs.Option.{option_map}
 use Rattle.cr_base.specs.declared.entry.Entry.{Entry}
 use Rattle.cr_base.specs.declared.entry.Entry.TheVariants.{Registered, Submitted, Conflict, Assigned}
 use Rattle.cr_base.specs.declared.entry.Entry.TheVariants.{Unassigned, Tagged}
@@ -14,7 +13,6 @@ use Rattle.cr_base.specs.Resolving.{command_of}
 use Rattle.cr_base.specs.Rows.{row_of, rows_of}
 use Rattle.cr_base.specs.Tables.{Tables, tables_of, FitInTurn}
 use Rattle.cr_log.specs.Given.{MayFollow}
-use Rattle.cr_judge.specs.Rows.{AreEarlier}
 use Rattle.cr_policy.specs.Legal.{Legal}
 use Rattle.cr_ports.specs.declared.keeper.KeeperError.{KeeperError}
 use Rattle.cr_ports.specs.declared.keeper.KeeperError.TheVariants as failures

@@ -3,7 +3,7 @@
 use Rattle.std.proofs.Common.{◌≡◌, ℕ, Bool, true, false, cond, List, refl, sym, ap, subst, ◌∙◌, arith, ◌||◌, ◌&&◌}
 use Rattle.std.proofs.Common.{Option, Some, None}
 use Rattle.std.specs.Prelude.{not}
-use Rattle.std.proofs.lemmas.Bool.{eqb-true, or_parts, or_from, and_parts, false≢true}
+use Rattle.std.proofs.lemmas.Bool.{eqb-true, or_parts, or_from, and_parts, false≢true, and_right}
 use Rattle.cr_base.specs.declared.entry.Entry.{Entry}
 use Rattle.cr_base.specs.declared.entry.Entry.TheVariants.{Registered, Submitted, Coauthor, Revised, Uploaded}
 use Rattle.cr_base.specs.declared.entry.Entry.TheVariants.{Withdrawn, Conflict, Bid, Assigned, Unassigned, Reviewed}
@@ -118,9 +118,6 @@ outcome-unlearnt n a d ha = grind (arith, ha)
 verdict-unread : (own h past n a d : Bool) → own ≡ false → h ≡ false → a ≡ false
     → ((own || (h && past)) || (n && (a && d))) ≡ false
 verdict-unread own h past n a d ho hh ha = grind (arith, ho, hh, ha)
-
-not-announced : (n p : Bool) → p ≡ false → (n && p) ≡ false
-not-announced n p hp = grind (arith, hp)
 
 -- the reader is the user who is named, where she may know it
 pub user-known : (u : Option ℕ) (known : Bool) (user : ℕ)
@@ -286,7 +283,7 @@ module _ (u : Option ℕ) (H : History) (paper : ℕ) (wrote : is_author u paper
         ≡ cond (is_in_programme paper H) (where_known (is_announced H later paper) true) None
     accepted-left =
         known-alone (is_announced H later paper) (is_in_programme paper H) true
-        (not-announced (not (is_decided_again paper later)) (is_in_programme paper H))
+        (and_right (not (is_decided_again paper later)) (is_in_programme paper H))
 
 -- what the bounds leave of an entry, on its paper
 abbrev LeftAt : Option ℕ → History → Sighting → Option ℕ → Type 0

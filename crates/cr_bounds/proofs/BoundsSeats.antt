@@ -2,7 +2,7 @@
 -- Of the bids on a paper, and of who reviews it, little is shown but to chairs in no conflict with it.
 use Rattle.std.proofs.Common.{◌≡◌, ℕ, Bool, true, false, eqb, refl, sym, ap, ◌∙◌, arith, ◌||◌, ◌&&◌, Option, None}
 use Rattle.std.specs.Prelude.{not, All}
-use Rattle.std.proofs.lemmas.Bool.{eqb-true, false≢true, and_parts}
+use Rattle.std.proofs.lemmas.Bool.{eqb-true, false≢true, and_parts, and_right}
 use Rattle.cr_base.specs.declared.entry.Entry.{Entry}
 use Rattle.cr_base.specs.declared.entry.Entry.TheVariants.{Bid, Assigned, Unassigned}
 use Rattle.cr_base.specs.declared.entry.EntryKind.TheVariants as kinds
@@ -10,6 +10,7 @@ use Rattle.cr_base.specs.declared.entry.Stamp.{Stamp}
 use Rattle.cr_base.specs.Lists.{is_number}
 use Rattle.cr_base.specs.History.{History}
 use Rattle.cr_base.specs.HistoryFacts.{phase_of, mode_of, is_author}
+use Rattle.cr_base.proofs.Small.{and_not_or}
 use Rattle.cr_policy.specs.Sighting.{Sighting}
 use Rattle.cr_policy.specs.View.{view}
 use Rattle.cr_policy.specs.ViewFacts.{is_user, is_kind}
@@ -94,10 +95,7 @@ module _ (u : Option ℕ) (p : ℕ) (H : History) where
 
   -- an author is in conflict, so she neither administers nor discusses her paper
   pub author-apart : is_author u p H ≡ true → (administers u p H ≡ false) × (is_eligible u p H ≡ false)
-  author-apart wrote = (by _ _ _ wrote, by _ _ _ wrote)
-    where
-      by : (rest a c : Bool) → a ≡ true → (rest && not (a || c)) ≡ false
-      by rest a c h = grind (arith, h)
+  author-apart wrote = (and_not_or _ _ _ wrote, and_not_or _ _ _ wrote)
 
   unanswered-by : (names_reviewers (mode_of H) && is_past_discussion (phase_of H)) ≡ false → is_answered u p H ≡ false
   unanswered-by h = by (is_author u p H) (names_reviewers (mode_of H)) (is_past_discussion (phase_of H)) h
@@ -135,12 +133,9 @@ reviewers-from-authors u p H wrote unnamed =
 
 pub reviewers-early : ReviewersEarly
 reviewers-early u p H apart early =
-    unseen u p H apart (behind (is_eligible u p H) (is_past_reviewing (phase_of H)) early)
-    (unanswered-by u p H (behind (names_reviewers (mode_of H)) (is_past_discussion (phase_of H)) not-yet))
+    unseen u p H apart (and_right (is_eligible u p H) (is_past_reviewing (phase_of H)) early)
+    (unanswered-by u p H (and_right (names_reviewers (mode_of H)) (is_past_discussion (phase_of H)) not-yet))
   where
-    behind : (a b : Bool) → b ≡ false → (a && b) ≡ false
-    behind a b h = grind (arith, h)
-
     not-yet : is_past_discussion (phase_of H) ≡ false
     not-yet = sym (phase-words (phase_of H)).notification_later ∙ ap (λ b. b && is_past_discussion (phase_of H)) early
 

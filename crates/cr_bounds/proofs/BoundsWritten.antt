@@ -18,6 +18,7 @@ use Rattle.cr_base.specs.Drawn.{stamped}
 use Rattle.cr_base.specs.Lists.{is_number, until}
 use Rattle.cr_base.specs.History.{History}
 use Rattle.cr_base.specs.HistoryFacts.{phase_of, mode_of, role_of, is_author, is_withdrawn, decision_of}
+use Rattle.cr_base.proofs.Small.{implied_not}
 use Rattle.cr_policy.specs.Sighting.{Sighting, blank}
 use Rattle.cr_policy.specs.View.{view}
 use Rattle.cr_policy.specs.ViewFacts.{is_kind}
@@ -163,19 +164,15 @@ module _ (u : Option ℕ) (p : ℕ) (H : History) (apart : administers u p H ≡
   none-of-others : All (λ (s : Sighting). is_of_others s ≡ false) (view u H)
   none-of-others = each-view u H (λ (s : Sighting). is_of_others s ≡ false) each
     where
-      none : (same own : Bool) → (same ≡ true → own ≡ true) → (same && not own) ≡ false
-      none true own h = ap not (h refl)
-      none false own h = refl
-
       each : (before later : History) (stamp : Stamp) (e : Entry) → is_told u H before later stamp.maker e ≡ true
           → is_of_others (shown_to u H before later stamp e) ≡ false
       each before later stamp (Commented paper n ordinal text) told =
           or-false _
-          ∙ none (eqb paper p) (is_number u stamp.maker)
+          ∙ implied_not (eqb paper p) (is_number u stamp.maker)
           (λ same. comment-own (is_number u stamp.maker) (is_eligible u paper H) (is_past_reviewing (phase_of H))
           (handled-at paper same) told)
       each before later stamp (Tagged paper tag on) told =
-          none (eqb paper p) (is_number u stamp.maker)
+          implied_not (eqb paper p) (is_number u stamp.maker)
           (λ same. tag-own (is_number u stamp.maker) (is_committees tag) (is_chairs tag) (is_eligible u paper H)
           (chairs_committee (role_of u H))
           (handled-at paper same) told)
@@ -288,14 +285,10 @@ decisions-early u p H apart early =
         → o ≡ true
     untold o x n a t d hx hd told = grind (arith, hx, hd, told)
 
-    none : (same own : Bool) → (same ≡ true → own ≡ true) → (same && not own) ≡ false
-    none true own h = ap not (h refl)
-    none false own h = refl
-
     each : (before later : History) (stamp : Stamp) (e : Entry) → is_told u H before later stamp.maker e ≡ true
         → is_others kinds.Decided p (shown_to u H before later stamp e) ≡ false
     each before later stamp (Decided paper decision) told =
-        none (eqb paper p) (is_number u stamp.maker)
+        implied_not (eqb paper p) (is_number u stamp.maker)
         (λ same. untold (is_number u stamp.maker) (discusses u paper H) (not (is_decided_again paper later))
         (is_author u paper H)
         (takes (decision_of paper H) && not (is_withdrawn paper H)) (is_past_discussion (phase_of H))

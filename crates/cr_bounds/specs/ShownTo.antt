@@ -30,7 +30,7 @@ use Rattle.cr_base.specs.declared.words.Mode.TheVariants.{Overt, Blind, Anonymou
 use Rattle.cr_base.specs.declared.words.Role.{Role}
 use Rattle.cr_base.specs.declared.words.Role.TheVariants.{Account, Member, Chair}
 use Rattle.cr_base.specs.Lists.{given, is_number, until}
-use Rattle.cr_base.specs.History.{History}
+use Rattle.cr_base.specs.History.{History, paper_about}
 use Rattle.cr_base.specs.HistoryFacts.{phase_of, mode_of, role_of, is_author}
 use Rattle.cr_base.specs.HistoryFacts.{is_conflict_on, is_invited, is_withdrawn, decision_of}
 use Rattle.cr_base.specs.Rows.{kind_of}
@@ -383,22 +383,7 @@ key_for u H before later stamp e = where_known (is_number u stamp.maker) stamp.k
 -- the paper's number: always
 abbrev pub paper_for : PartFor (Option ℕ)
 paper_for u H before later stamp (Submitted paper title abstract) = Some paper
-paper_for u H before later stamp (Coauthor paper user) = Some paper
-paper_for u H before later stamp (Revised paper title abstract) = Some paper
-paper_for u H before later stamp (Uploaded paper version content) = Some paper
-paper_for u H before later stamp (Withdrawn paper) = Some paper
-paper_for u H before later stamp (Conflict paper user on) = Some paper
-paper_for u H before later stamp (Bid paper value) = Some paper
-paper_for u H before later stamp (Assigned paper user review_kind ordinal) = Some paper
-paper_for u H before later stamp (Unassigned paper user ordinal) = Some paper
-paper_for u H before later stamp (Reviewed paper ordinal version form) = Some paper
-paper_for u H before later stamp (Commented paper n ordinal text) = Some paper
-paper_for u H before later stamp (Tagged paper tag on) = Some paper
-paper_for u H before later stamp (Decided paper decision) = Some paper
-paper_for u H before later stamp (Invited paper user) = Some paper
-paper_for u H before later stamp (Uninvited paper user) = Some paper
-paper_for u H before later stamp (Responded paper text) = Some paper
-paper_for u H before later stamp _ = None
+paper_for u H before later stamp e = paper_about e
 
 -- who reviews a paper: to the user assigned, the user who made the entry, those who administer the paper, its authors
 -- if they are told its reviewers, and those who discuss the paper unless the mode hides reviewers

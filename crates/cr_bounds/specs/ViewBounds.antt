@@ -3,16 +3,16 @@
 -- what is left for users who should know little. They hold of every history, legal or not, of every user and of an
 -- unauthenticated caller.
 use Rattle.std.specs.Prelude.{ℕ, Bool, true, false, ◌≡◌, ◌≤◌, ◌||◌, ◌&&◌, not, List, [], length}
-use Rattle.std.specs.Prelude.{map, Option, Some, None, All, IsTrue, IsFalse, if◌then◌else◌}
+use Rattle.std.specs.Prelude.{map, Option, Some, None, is_some, All, IsTrue, IsFalse, if◌then◌else◌}
 use Rattle.std.specs.List.{flat_map, list_any}
 use Rattle.cr_base.specs.declared.entry.Entry.{Entry}
-use Rattle.cr_base.specs.declared.entry.Entry.TheVariants.{Coauthor, Conflict, Assigned, Unassigned, Reviewed}
+use Rattle.cr_base.specs.declared.entry.Entry.TheVariants.{Assigned, Unassigned, Reviewed}
 use Rattle.cr_base.specs.declared.entry.Entry.TheVariants.{Invited, Uninvited}
 use Rattle.cr_base.specs.declared.entry.EntryKind.{EntryKind}
 use Rattle.cr_base.specs.declared.entry.EntryKind.TheVariants as kinds
 use Rattle.cr_base.specs.declared.entry.Stamped.{Stamped}
 use Rattle.cr_base.specs.Lists.{listed, is_number, at_some}
-use Rattle.cr_base.specs.History.{History}
+use Rattle.cr_base.specs.History.{History, paper_about, user_about}
 use Rattle.cr_base.specs.HistoryFacts.{phase_of, mode_of, role_of, is_author}
 use Rattle.cr_policy.specs.Sighting.{Sighting, blank}
 use Rattle.cr_policy.specs.View.{view}
@@ -532,13 +532,7 @@ IsPublicIn H s = IsPublic (at_some (λ p. is_in_programme p H) s.paper) (at_some
 
 -- the entry is on a paper, and names the user
 abbrev pub names_her : Option ℕ → Entry → Bool
-names_her u (Coauthor paper user) = is_number u user
-names_her u (Conflict paper user on) = is_number u user
-names_her u (Assigned paper user review_kind ordinal) = is_number u user
-names_her u (Unassigned paper user ordinal) = is_number u user
-names_her u (Invited paper user) = is_number u user
-names_her u (Uninvited paper user) = is_number u user
-names_her u _ = false
+names_her u e = is_some (paper_about e) && at_some (is_number u) (user_about e)
 
 -- the entry is one of those of which chairs in no conflict with the paper are told in every phase: an assignment, its
 -- end, an invitation, its end, or a form

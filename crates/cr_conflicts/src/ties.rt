@@ -21,7 +21,7 @@ use crate::told::{authored_pairs, bid_pairs, conflict_pairs};
 use cr_base::{
     Bid, Entry, Order, Pair, PaperNo, Role, Rule, Stamped, Standing, Steps, Target, Tie, UserNo,
 };
-use cr_kept::Files;
+use cr_kept::Cabinet;
 use cr_pairs::{IndexedPairs, PairRows, papers_of};
 use std::alloc::{AllocError, Global};
 use std::marker::Model;
@@ -39,7 +39,7 @@ pub struct Ties {
     alloc: Global,
     // Papers and their authors, in the order in which they were told, the submitter first, so the index of an
     // author among them needn't be kept.
-    authors: Files<Tie<()>>,
+    authors: Cabinet<Tie<()>>,
     // The conflicts, by user.
     authored: PairRows<()>,
     // Papers, and the users declared in conflict with them.
@@ -146,7 +146,7 @@ impl Ties {
     {
         Ties {
             alloc,
-            authors: Files::new(alloc),
+            authors: Cabinet::new(alloc),
             authored: PairRows::new(alloc, Order::ByUser),
             conflicts: IndexedPairs::new(alloc),
             declared: PairRows::new(alloc, Order::ByPaper),

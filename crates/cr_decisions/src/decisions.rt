@@ -10,7 +10,7 @@ ghost use Rattle.cr_base.specs.Steps.{Takes, TakesAtMost};
 ghost use Rattle.cr_decisions.specs.Room.{paper_decided, DecisionsHaveRoom};
 
 use cr_base::{Decision, Entry, PaperNo, Rule, Stamped, Standing, Steps};
-use cr_kept::Files;
+use cr_kept::Cabinet;
 use std::alloc::{AllocError, Global};
 use std::marker::Model;
 use std::sync::ledger::Ledger;
@@ -23,7 +23,7 @@ use std::sync::ledger::Ledger;
 #[derive(Drop)]
 pub struct Decisions {
     alloc: Global,
-    decisions: Files<Decision>,
+    decisions: Cabinet<Decision>,
 }
 
 impl Model for Decisions {
@@ -46,7 +46,7 @@ impl Decisions {
     {
         Decisions {
             alloc,
-            decisions: Files::new(alloc),
+            decisions: Cabinet::new(alloc),
         }
     }
 

@@ -1,7 +1,7 @@
 -- SPDX-License-Identifier: Apache-2.0 OR MIT
 -- Who takes part in a drill has registered before the steps, and stays so.
 use Rattle.std.proofs.Common.{◌≡◌, ◌∙◌, ℕ, zero, suc, ◌+◌, ◌≤◌, ◌||◌, List, [], ◌∷◌, ◌++◌, Bool, true, false, Some}
-use Rattle.std.proofs.Common.{None, Result, Ok, Err, refl, sym, ap, subst, arith, length, if◌then◌else◌}
+use Rattle.std.proofs.Common.{None, Result, Ok, Err, refl, sym, ap, subst, arith, length, if◌then◌else◌, add-one}
 use Rattle.std.specs.List.{list_any}
 use Rattle.cr_base.specs.declared.command.Call.{Call}
 use Rattle.cr_base.specs.declared.command.Command.{Command}
@@ -76,27 +76,24 @@ module _ (digest : ℕ → List ℕ) where
 
 -- ---- one more
 
-next : (n : ℕ) → n + 1 ≡ suc n
-next n = omega arith
-
 pub registered-next : (digest : ℕ → List ℕ) (n user : ℕ) (H H' : History) → H ≡ registered_first digest n → user ≡ n + 1
     → H' ≡ step H (drill_call None (Register (cast_name user) (digest user))) → H' ≡ registered_first digest (n + 1)
 registered-next digest n user H H' before number stepped =
     stepped
     ∙
     (λ i. step (before i)
-    (drill_call None (Register (cast_name ((number ∙ next n) i)) (digest ((number ∙ next n) i)))))
-    ∙ ap (registered_first digest) (sym (next n))
+    (drill_call None (Register (cast_name ((number ∙ add-one n) i)) (digest ((number ∙ add-one n) i)))))
+    ∙ ap (registered_first digest) (sym (add-one n))
 
 pub members-next : (n : ℕ) (H G G' : History) → G ≡ members_named n H → G' ≡ named Member (3 + n) G
     → G' ≡ members_named (n + 1) H
 members-next n H G G' before more =
-    more ∙ ap (named Member (3 + n)) before ∙ ap (λ (k : ℕ). members_named k H) (sym (next n))
+    more ∙ ap (named Member (3 + n)) before ∙ ap (λ (k : ℕ). members_named k H) (sym (add-one n))
 
 pub drilled-next : (seed steps n : ℕ) (d d' : Drilled) → d ≡ drilled_for seed steps n → d' ≡ stepped steps n d
     → d' ≡ drilled_for seed steps (n + 1)
 drilled-next seed steps n d d' before more =
-    more ∙ ap (stepped steps n) before ∙ ap (drilled_for seed steps) (sym (next n))
+    more ∙ ap (stepped steps n) before ∙ ap (drilled_for seed steps) (sym (add-one n))
 
 -- ---- one step
 

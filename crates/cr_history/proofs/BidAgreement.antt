@@ -12,8 +12,8 @@ use Rattle.cr_base.specs.HistoryFacts.{bid_of}
 use Rattle.cr_base.specs.Tables.{Tables, no_tables, tables_of}
 use Rattle.cr_base.specs.Ties.{TiesState, pair_of, bid_tie, ties_after, bid_in}
 use Rattle.cr_base.proofs.LastLaws.{last_from-given}
-use Rattle.cr_base.proofs.ListLaws.{turned}
 use Rattle.cr_base.proofs.PairLaws.{tie_value-with_tie}
+use Rattle.cr_base.proofs.Small.{eqb-swap}
 use Rattle.cr_history.proofs.Folds.{told-always, each-silent}
 
 -- ---- bids
@@ -24,7 +24,7 @@ bid-entry : (p v : ℕ) (ties : TiesState) (maker : ℕ) (e : Entry) (rest : Lis
 bid-entry p v ties maker (Bid paper value) rest =
     let before : Option ℕ = bid_in ties (Some v) p in
     last_from-given (eqb paper p && eqb v maker) value before rest
-    ∙ ap (λ b. last_from (cond (b && eqb v maker) (Some value) before) rest) (turned paper p)
+    ∙ ap (λ b. last_from (cond (b && eqb v maker) (Some value) before) rest) (eqb-swap paper p)
     ∙ ap (λ o. last_from o rest) (sym (tie_value-with_tie (pair_of p v) ByPaper (bid_tie paper maker value) ties.bids))
 bid-entry p v ties maker e rest = refl
 

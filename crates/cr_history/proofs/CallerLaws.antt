@@ -1,10 +1,10 @@
 -- SPDX-License-Identifier: Apache-2.0 OR MIT
 -- Callers have registered, and who has registered has a number that a row can hold.
-use Rattle.std.proofs.Common.{ℕ, Bool, true, false, cond, ◌≡◌, List, [], ◌∷◌, ◌++◌, eqb, refl, sym, ap, ◌∙◌, arith}
+use Rattle.std.proofs.Common.{ℕ, Bool, true, false, cond, ◌≡◌, List, [], ◌∷◌, ◌++◌, eqb, refl, sym, ◌∙◌, arith}
 use Rattle.std.proofs.Common.{◌||◌, ◌&&◌, Option, Some, None}
 use Rattle.std.specs.List.{list_any}
 use Rattle.std.specs.Str.{bytes_eq}
-use Rattle.std.proofs.lemmas.Bool.{eqb-true, eq-eqb}
+use Rattle.std.proofs.lemmas.Bool.{eqb-true, eq-eqb, or_left, or_right}
 use Rattle.cr_base.specs.declared.entry.Account.{Account}
 use Rattle.cr_base.specs.declared.entry.Entry.{Entry}
 use Rattle.cr_base.specs.declared.entry.Entry.TheVariants.{Registered}
@@ -46,13 +46,6 @@ registered-from t (s ∷ H) user fits h = numbered-entry t.accounts s.entry user
 or_assoc : (a b c : Bool) → ((a || b) || c) ≡ true → (a || (b || c)) ≡ true
 or_assoc true b c h = refl
 or_assoc false b c h = h
-
-or_left : (a b : Bool) → a ≡ true → (a || b) ≡ true
-or_left a b h = ap (λ a. a || b) h
-
-or_right : (a b : Bool) → b ≡ true → (a || b) ≡ true
-or_right true b h = refl
-or_right false b h = h
 
 -- an entry, where the user is found in what is told so far only if she is seen so far
 caller-entry : (name digest : List ℕ) (user : ℕ) (e : Entry) (later : List ℕ) (rest : List Registration)

@@ -22,9 +22,9 @@ use Rattle.cr_base.specs.Ties.{is_conflict_on_in, is_conflicted_in}
 use Rattle.cr_base.specs.Tables.{Tables, no_tables, tables_after, tables_from, tables_of, FitInTurn}
 use Rattle.cr_base.proofs.PaperLaws.{length-with_paper}
 use Rattle.cr_base.proofs.LastLaws.{last_or-given}
-use Rattle.cr_base.proofs.ListLaws.{turned}
 use Rattle.cr_base.proofs.PairLaws.{has_pair-with_tie}
 use Rattle.cr_base.proofs.TieLaws.{has_pair-switched, users_tied_to-push}
+use Rattle.cr_base.proofs.Small.{eqb-swap}
 use Rattle.cr_history.specs.Invariants.{InTurn, ComesFirst, is_conflict_with}
 use Rattle.cr_history.proofs.PaperAgreement.{is_author-tables}
 use Rattle.cr_history.proofs.Folds.{told-always, each-silent}
@@ -48,7 +48,7 @@ conflict-entry : (p v : ℕ) (ties : TiesState) (maker : ℕ) (e : Entry) (rest 
     ≡ last_or (has_pair (pair_of p v) (ties_after ties maker e).conflicts) rest
 conflict-entry p v ties maker (Conflict paper user on) rest =
     last_or-given (eqb paper p && eqb v user) (has_pair (pair_of p v) ties.conflicts) on rest
-    ∙ ap (λ b. last_or (cond (b && eqb v user) on (has_pair (pair_of p v) ties.conflicts)) rest) (turned paper p)
+    ∙ ap (λ b. last_or (cond (b && eqb v user) on (has_pair (pair_of p v) ties.conflicts)) rest) (eqb-swap paper p)
     ∙ ap (λ b. last_or b rest) (sym (switched-told on (pair_of p v) paper user ties.conflicts))
 conflict-entry p v ties maker e rest = refl
 
@@ -179,8 +179,8 @@ declared-entry p v ties maker (Conflict paper user on) wrote rest same =
     let now : has_pair (pair_of p v) (cond writes (with_tie ByPaper (bare_tie paper user) ties.declared) ties.declared)
     ≡ cond writes (names || there) there = by writes in
     ap (λ b. there || b) (among-given (eqb paper p && wrote) user v rest)
-    ∙ told (eqb paper p) (eqb p paper) (eqb user v) (eqb v user) wrote writes there (is_among v rest) (turned paper p)
-    (turned user v)
+    ∙ told (eqb paper p) (eqb p paper) (eqb user v) (eqb v user) wrote writes there (is_among v rest) (eqb-swap paper p)
+    (eqb-swap user v)
     (λ here. same here ∙ ap (is_author_in ties (Some maker)) (sym (eqb-true paper p here)))
     ∙ ap (λ b. b || is_among v rest) (sym now)
   where

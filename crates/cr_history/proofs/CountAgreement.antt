@@ -1,7 +1,7 @@
 -- SPDX-License-Identifier: Apache-2.0 OR MIT
 -- What the tables count of each user is what a history tells of her.
 use Rattle.std.proofs.Common.{ℕ, Bool, true, false, cond, ◌≡◌, ◌+◌, List, [], ◌∷◌, ◌++◌, length, eqb, refl, sym, ap}
-use Rattle.std.proofs.Common.{◌∙◌, arith, zero, suc, get_or, Option, Some, None}
+use Rattle.std.proofs.Common.{◌∙◌, arith, zero, suc, get_or, Option, Some, None, add-zero}
 use Rattle.std.proofs.lemmas.Bool.Decides.{nat_tests}
 use Rattle.cr_base.specs.declared.entry.Entry.{Entry}
 use Rattle.cr_base.specs.declared.entry.Stamped.{Stamped}
@@ -9,6 +9,7 @@ use Rattle.cr_base.specs.Lists.{given, is_number}
 use Rattle.cr_base.specs.History.{History, all_told_by}
 use Rattle.cr_base.specs.Papers.{with_more}
 use Rattle.cr_base.specs.Tables.{Tables, no_tables, tables_after, tables_of}
+use Rattle.cr_base.proofs.Small.{eqb-suc}
 use Rattle.cr_history.proofs.Folds.{told-always}
 
 -- ---- a user's sum
@@ -37,15 +38,9 @@ get-with_more (suc i) more zero (n ∷ sums) = ap (λ b. cond b (n + more) n) (n
   where
     never : (i : ℕ) → false ≡ eqb 0 (suc i)
     never i = grind (arith, nat_tests)
-get-with_more (suc i) more (suc k) [] = get-with_more i more k [] ∙ ap (λ b. cond b (0 + more) 0) (step k i)
-  where
-    step : (k i : ℕ) → eqb k i ≡ eqb (suc k) (suc i)
-    step k i = grind (arith, nat_tests)
+get-with_more (suc i) more (suc k) [] = get-with_more i more k [] ∙ ap (λ b. cond b (0 + more) 0) (eqb-suc k i)
 get-with_more (suc i) more (suc k) (n ∷ sums) =
-    get-with_more i more k sums ∙ ap (λ b. cond b (get_or sums k 0 + more) (get_or sums k 0)) (step k i)
-  where
-    step : (k i : ℕ) → eqb k i ≡ eqb (suc k) (suc i)
-    step k i = grind (arith, nat_tests)
+    get-with_more i more k sums ∙ ap (λ b. cond b (get_or sums k 0 + more) (get_or sums k 0)) (eqb-suc k i)
 
 -- a user's sum; nobody has any
 abbrev pub sum_at : List ℕ → Option ℕ → ℕ
@@ -73,9 +68,6 @@ sum-with_one u maker x n sums =
     by true = refl
     by false = refl
 
-pub plus_nothing : (n : ℕ) → n + 0 ≡ n
-plus_nothing n = omega arith
-
 -- ---- all of it
 
 -- where each entry adds to a user's sum what it tells of her, she has what all of them tell
@@ -87,7 +79,7 @@ module _ (size : List ℕ → ℕ) (nil : size [] ≡ 0) (append : (xs ys : List
   sum-tables one H =
       none u (size (all_told_by told H)) ∙ ap (λ (ns : List ℕ). sum_at ns u + size (all_told_by told H)) (sym first)
       ∙ told-always (λ n xs. n + size xs) (λ n. ap (λ m. n + m) nil
-      ∙ plus_nothing n) (λ (t : Tables). sum_at (sums t) u) (λ (s : Stamped). told s.stamp.maker s.entry)
+      ∙ add-zero n) (λ (t : Tables). sum_at (sums t) u) (λ (s : Stamped). told s.stamp.maker s.entry)
       (λ t s rest. ap (λ n. sum_at (sums t) u + n) (append (told s.stamp.maker s.entry) rest) ∙ one t s (size rest))
       no_tables H
     where

@@ -15,7 +15,7 @@ use Rattle.cr_base.specs.Papers.{is_withdrawn_at}
 use Rattle.cr_base.specs.Sources.{is_accepted_in}
 use Rattle.cr_base.specs.Tables.{Tables, no_tables, tables_of, FitInTurn}
 use Rattle.cr_base.proofs.FiledLaws.{filed_of-with_filed}
-use Rattle.cr_base.proofs.ListLaws.{turned}
+use Rattle.cr_base.proofs.Small.{eqb-swap}
 use Rattle.cr_history.proofs.Folds.{told-always}
 use Rattle.cr_history.proofs.PaperAgreement.{is_withdrawn-tables}
 use Rattle.cr_history.proofs.StageAgreement.{phase_of-tables}
@@ -23,7 +23,7 @@ use Rattle.cr_history.proofs.StageAgreement.{phase_of-tables}
 decisions-entry : (p : ℕ) (decisions : DecisionsState) (e : Entry)
     → filed_of p decisions ++ decision_told p e ≡ filed_of p (decisions_after decisions e)
 decisions-entry p decisions (Decided paper decision) =
-    ap (λ b. filed_of p decisions ++ given b decision) (turned paper p)
+    ap (λ b. filed_of p decisions ++ given b decision) (eqb-swap paper p)
     ∙ sym (filed_of-with_filed p (filed paper decision) decisions)
 decisions-entry p decisions e = append-nil (filed_of p decisions)
 

@@ -14,13 +14,13 @@ use Rattle.cr_base.specs.declared.entry.Entry.TheVariants.{PhaseSet, Reviewed}
 use Rattle.cr_base.specs.declared.entry.Stamped.{Stamped}
 use Rattle.cr_base.specs.declared.review.WrittenForm.{WrittenForm}
 use Rattle.cr_base.specs.declared.words.Phase.{Phase}
-use Rattle.cr_base.specs.declared.words.Phase.TheVariants.{Response, Discussion}
+use Rattle.cr_base.specs.declared.words.Phase.TheVariants.{Response}
 use Rattle.cr_base.specs.History.{History, FormTold, form_told, own_form_told, whole_form, opens, opens_discussion}
 use Rattle.cr_base.specs.History.{opens_response}
 use Rattle.cr_base.specs.HistoryFacts.{ordinal_of, forms_of, forms_discussed_of, own_forms_of, early_form_of}
 use Rattle.cr_base.specs.HistoryFacts.{had_response_of}
 use Rattle.cr_base.specs.Lists.{given, is_number, last, listed, until, since}
-use Rattle.cr_base.specs.Phases.{phase_rank, is_from, is_next}
+use Rattle.cr_base.specs.Phases.{committee_reads_from, phase_rank, is_from, is_next}
 use Rattle.cr_base.specs.Reviews.{ReviewsState, reviews_after, forms_in, forms_discussed_in, early_form_in}
 use Rattle.cr_base.specs.Reviews.{written_told}
 use Rattle.cr_base.specs.Seats.{ordinal_in}
@@ -103,9 +103,9 @@ module _ (first : Phase) where
       ∙ none_opens (reviews_after reviews s.entry) H on.1 (stays_late reviews s.entry on.0 late)
 
 -- the discussion doesn't begin where nothing opens it
-stays_early : (reviews : ReviewsState) (e : Entry) → IsOn reviews.phase e → opens Discussion e ≡ false
-    → is_from Discussion reviews.phase ≡ false
-    → is_from Discussion (reviews_after reviews e).phase ≡ false
+stays_early : (reviews : ReviewsState) (e : Entry) → IsOn reviews.phase e → opens committee_reads_from e ≡ false
+    → is_from committee_reads_from reviews.phase ≡ false
+    → is_from committee_reads_from (reviews_after reviews e).phase ≡ false
 stays_early reviews (PhaseSet phase) on closed early = by (phase_rank reviews.phase) (phase_rank phase) on closed early
   where
     by : (m n : ℕ) → (eqb n (m + 1) || (eqb m 3 && eqb n 5)) ≡ true → eqb n 5 ≡ false → nat_le 5 m ≡ false
@@ -121,8 +121,9 @@ AreOpened first reviews (s ∷ H) =
     → (is_from first (reviews_after reviews s.entry).phase ≡ false) × AreOpened first (reviews_after reviews s.entry) H
 
 -- the discussion does always, and each phase that is opened
-discussion_opened : (reviews : ReviewsState) (H : History) → GoesOn reviews H → is_from Discussion reviews.phase ≡ false
-    → AreOpened Discussion reviews H
+discussion_opened : (reviews : ReviewsState) (H : History) → GoesOn reviews H
+    → is_from committee_reads_from reviews.phase ≡ false
+    → AreOpened committee_reads_from reviews H
 discussion_opened reviews [] on early = tt
 discussion_opened reviews (s ∷ H) on early = λ closed.
     let still = stays_early reviews s.entry on.0 closed early in
@@ -223,9 +224,9 @@ forms_discussed_of-tables : (p o : ℕ) (H : History) → InTurn IsInOrder [] H
     → forms_discussed_of p o H ≡ forms_discussed_in (tables_of H).reviews p o
 forms_discussed_of-tables p o H kept =
     ap (λ (fs : List FormTold). listed (last fs) ++ late)
-    (sym (append-nil early) ∙ sym (early-forms Discussion not p o no_tables H on opened refl))
+    (sym (append-nil early) ∙ sym (early-forms committee_reads_from not p o no_tables H on opened refl))
     ∙ ap (λ (fs : List FormTold). listed (last (map written_told before)) ++ fs)
-    (sym (early-forms Discussion (λ b. b) p o no_tables H on opened refl))
+    (sym (early-forms committee_reads_from (λ b. b) p o no_tables H on opened refl))
     ∙ ap (λ (fs : List FormTold). fs ++ map written_told from)
     (ap listed (last_from-map written_told None before) ∙ listed-map written_told (last before))
     ∙ sym (map-append written_told (listed (last before)) from)
@@ -233,7 +234,7 @@ forms_discussed_of-tables p o H kept =
     on : GoesOn (tables_of []).reviews H
     on = goes_on [] H kept
 
-    opened : AreOpened Discussion (tables_of []).reviews H
+    opened : AreOpened committee_reads_from (tables_of []).reviews H
     opened = discussion_opened (tables_of []).reviews H on refl
 
     early : List FormTold
@@ -243,10 +244,11 @@ forms_discussed_of-tables p o H kept =
     late = forms_of p o (since opens_discussion H)
 
     before : List WrittenForm
-    before = filter (λ (w : WrittenForm). not (is_from Discussion w.phase)) (forms_in (tables_of H).reviews p o)
+    before =
+        filter (λ (w : WrittenForm). not (is_from committee_reads_from w.phase)) (forms_in (tables_of H).reviews p o)
 
     from : List WrittenForm
-    from = filter (λ (w : WrittenForm). is_from Discussion w.phase) (forms_in (tables_of H).reviews p o)
+    from = filter (λ (w : WrittenForm). is_from committee_reads_from w.phase) (forms_in (tables_of H).reviews p o)
 
 -- ---- forms to which authors respond
 

@@ -30,13 +30,13 @@ use Rattle.cr_base.specs.declared.words.Decision.TheVariants.{Accept, Reject}
 use Rattle.cr_base.specs.declared.words.Kind.{Kind}
 use Rattle.cr_base.specs.declared.words.Kind.TheVariants as kind
 use Rattle.cr_base.specs.declared.words.Role.TheVariants as role
-use Rattle.cr_base.specs.Accounts.{lines_from}
+use Rattle.cr_base.specs.Accounts.{IsAccount, lines_from}
 use Rattle.cr_base.specs.Deadlines.{IsDeadlineOrNone, last_deadline}
 use Rattle.cr_base.specs.Drawn.{stamped, grouped, submission}
 use Rattle.cr_base.specs.HistoryFacts.{role_of, accounts_of, ordinal_of}
-use Rattle.cr_base.specs.History.{History, Registration, all_told, registration_told}
+use Rattle.cr_base.specs.History.{History, Registration, all_told, registration_told, paper_about, user_about}
 use Rattle.cr_base.specs.Keys.{IsRetryKey, IsKeyOrNone, last_command_number}
-use Rattle.cr_base.specs.Lists.{numbers_from}
+use Rattle.cr_base.specs.Lists.{AtSome, numbers_from}
 use Rattle.cr_base.specs.Papers.{IsPaper}
 use Rattle.cr_base.specs.Phases.{may_have_deadline}
 use Rattle.cr_base.specs.Reviews.{forms_in, written_told}
@@ -56,7 +56,7 @@ use Rattle.cr_base.proofs.AccountLaws.{length-lines_of}
 use Rattle.cr_base.proofs.ListLaws.{length-numbers_from, list_any-numbers_from}
 use Rattle.cr_history.specs.Groups.{IsRuled, IsBoundedStamp, Adds, single, submitted, first_user, Grows, adds}
 use Rattle.cr_history.specs.Groups.{goes_on}
-use Rattle.cr_history.specs.Invariants.{IsRegistered, IsMadeByUser, HasNextNumber, HasNewName, IsAboutThose}
+use Rattle.cr_history.specs.Invariants.{AreThere, IsRegistered, IsMadeByUser, HasNextNumber, HasNewName, IsAboutThose}
 use Rattle.cr_history.specs.Invariants.{IsSubmitted, InTurn}
 use Rattle.cr_history.proofs.CallerLaws.{registered-from}
 use Rattle.cr_history.proofs.SizeAgreement.{IsSized, sized-tables}
@@ -129,34 +129,24 @@ module _ (H : History) (fits : FitInTurn no_tables H) where
   fits-name stamp more (Registered user name digest) fit = number_of-tables name H fits ∙ fit.accounts.2
   fits-name stamp more e fit = tt
 
+  are-there : (paper user : Option ℕ) → AtSome (IsPaper (tables_of H).papers) paper
+      → AtSome (IsAccount (tables_of H).accounts) user → AreThere H paper user
+  are-there None None there by = tt
+  are-there None (Some user) there by = registered-within user by.0 by.1
+  are-there (Some paper) None there by = submitted-within paper there.0 there.1
+  are-there (Some paper) (Some user) there by =
+      (submitted-within paper there.0 there.1, registered-within user by.0 by.1)
+
   pub fits-about : (stamp : Stamp) (more : Bool) (e : Entry) → Fits (tables_of H) (stamped stamp more e)
       → IsAboutThose H e
-  fits-about stamp more (Named user role) fit = registered-within user fit.accounts.0 fit.accounts.1
+  fits-about stamp more (Registered user name digest) fit = tt
+  fits-about stamp more (Submitted paper title abstract) fit = tt
   fits-about stamp more (Coauthor paper user) fit = (
     submitted-within paper fit.papers.0 (let last = fit.papers.1 in omega (arith, last)),
     registered-within user fit.accounts.0 fit.accounts.1,
   )
-  fits-about stamp more (Revised paper title abstract) fit = submitted-within paper fit.papers.0 fit.papers.1
   fits-about stamp more (Uploaded paper version content) fit = submitted-within paper fit.papers.0.0 fit.papers.0.1
-  fits-about stamp more (Withdrawn paper) fit = submitted-within paper fit.papers.0 fit.papers.1
-  fits-about stamp more (Conflict paper user on) fit =
-      (submitted-within paper fit.papers.0 fit.papers.1, registered-within user fit.accounts.0 fit.accounts.1)
-  fits-about stamp more (Bid paper value) fit = submitted-within paper fit.papers.0 fit.papers.1
-  fits-about stamp more (Assigned paper user kind ordinal) fit =
-      (submitted-within paper fit.papers.0 fit.papers.1, registered-within user fit.accounts.0 fit.accounts.1)
-  fits-about stamp more (Unassigned paper user ordinal) fit =
-      (submitted-within paper fit.papers.0 fit.papers.1, registered-within user fit.accounts.0 fit.accounts.1)
-  fits-about stamp more (Reviewed paper ordinal version form) fit = submitted-within paper fit.papers.0 fit.papers.1
-  fits-about stamp more (Commented paper n ordinal text) fit = submitted-within paper fit.papers.0 fit.papers.1
-  fits-about stamp more (Tagged paper tag on) fit = submitted-within paper fit.papers.0 fit.papers.1
-  fits-about stamp more (Decided paper decision) fit = submitted-within paper fit.papers.0 fit.papers.1
-  fits-about stamp more (Dismissed user) fit = registered-within user fit.accounts.0 fit.accounts.1
-  fits-about stamp more (Invited paper user) fit =
-      (submitted-within paper fit.papers.0 fit.papers.1, registered-within user fit.accounts.0 fit.accounts.1)
-  fits-about stamp more (Uninvited paper user) fit =
-      (submitted-within paper fit.papers.0 fit.papers.1, registered-within user fit.accounts.0 fit.accounts.1)
-  fits-about stamp more (Responded paper text) fit = submitted-within paper fit.papers.0 fit.papers.1
-  fits-about stamp more e fit = tt
+  fits-about stamp more e fit = are-there (paper_about e) (user_about e) fit.papers fit.accounts
 
 -- ---- numbers of fields
 

@@ -18,7 +18,7 @@ use Rattle.cr_base.specs.declared.words.Phase.TheVariants.{Notification, Closed}
 use Rattle.cr_base.specs.Lists.{last_or, is_number, until, since}
 use Rattle.cr_base.specs.History.{History, all_told, opens, phase_told, author_told}
 use Rattle.cr_base.specs.HistoryFacts.{phase_of, authors_of, is_author}
-use Rattle.cr_base.specs.Phases.{phase_rank, is_from, is_next, is_phase, authors_have_declared}
+use Rattle.cr_base.specs.Phases.{committee_reads_from, phase_rank, is_from, is_next, is_phase, authors_have_declared}
 use Rattle.cr_base.specs.Drawn.{stamped, submission}
 use Rattle.cr_history.proofs.Folds.{last_or-append}
 use Rattle.cr_history.specs.Invariants.{is_opening, ByAuthor, ByHerselfOrOther, Early, Late, DeclaresInTime}
@@ -275,7 +275,7 @@ in_time-append H g grows kept = by (list_any is_opening H) refl
 
 -- and the discussion is opened in time
 pub discussed-append : (H g : History) → Grows H g → IsDiscussedInTime H → IsDiscussedInTime (H ++ g)
-discussed-append H g grows kept = in_time-after Discussion refl H g (grown-moves H g grows) kept
+discussed-append H g grows kept = in_time-after committee_reads_from refl H g (grown-moves H g grows) kept
 
 -- the response is opened in time, where it is
 pub responded-nil : IsRespondedInTime []

@@ -2,7 +2,7 @@
 -- Where each entry fits in its turn, what a history tells of its papers is what the table of papers has, and what it
 -- tells of authors is what the table of ties has.
 use Rattle.std.proofs.Common.{ℕ, Bool, true, false, cond, ◌≡◌, ◌+◌, List, [], ◌∷◌, ◌++◌, length, eqb, refl, sym, ap}
-use Rattle.std.proofs.Common.{◌∙◌, arith, append_assoc, append-nil, length-append, Option, Some, None}
+use Rattle.std.proofs.Common.{◌∙◌, arith, append_assoc, append-nil, length-append, Option, Some, None, add-zero}
 use Rattle.std.specs.List.{list_any}
 use Rattle.std.specs.Option.{option_map, option_map_or}
 use Rattle.std.proofs.lemmas.Bool.{eqb-true}
@@ -24,9 +24,10 @@ use Rattle.cr_base.specs.Tables.{Tables, no_tables, tables_of, FitInTurn}
 use Rattle.cr_base.proofs.PaperLaws.{read-changed, read-kept, numbers_from-with_paper}
 use Rattle.cr_base.proofs.FiledLaws.{filed_of-with_filed}
 use Rattle.cr_base.proofs.LastLaws.{last_from-given, last_or-given}
-use Rattle.cr_base.proofs.ListLaws.{turned, numbered-nil, numbered-none, numbered-push, numbers_from-push}
+use Rattle.cr_base.proofs.ListLaws.{numbered-nil, numbered-none, numbered-push, numbers_from-push}
 use Rattle.cr_base.proofs.TieLaws.{users_tied_to-push}
-use Rattle.cr_history.proofs.CountAgreement.{sum_at, sum-with_more, sum-with_one, plus_nothing, sum-tables}
+use Rattle.cr_base.proofs.Small.{total-append, eqb-swap}
+use Rattle.cr_history.proofs.CountAgreement.{sum_at, sum-with_more, sum-with_one, sum-tables}
 use Rattle.cr_history.proofs.Folds.{told-always, told-fitting}
 
 -- ---- the numbers of the papers
@@ -71,10 +72,6 @@ own_papers_of-tables u H =
 
 -- ---- how many bytes the user has uploaded
 
-total-append : (ms ns : List ℕ) → total (ms ++ ns) ≡ total ms + total ns
-total-append [] ns = omega arith
-total-append (m ∷ ms) ns = let rest = total-append ms ns in omega (arith, rest)
-
 bytes-entry : (u : Option ℕ) (state : PapersState) (maker : ℕ) (e : Entry) (n : ℕ)
     → sum_at state.uploaded u + (total (own_bytes_told u maker e) + n) ≡ sum_at (papers_after state maker e).uploaded u
     + n
@@ -83,7 +80,7 @@ bytes-entry u state maker (Uploaded paper version content) n =
     (by (is_number u maker))
   where
     by : (b : Bool) → total (given b (length content)) ≡ cond b (length content) 0
-    by true = plus_nothing (length content)
+    by true = add-zero (length content)
     by false = refl
 bytes-entry u state maker e n = omega arith
 
@@ -129,7 +126,7 @@ module _ (part : Paper → List ℕ) (anew : (title abstract : List ℕ) (y : Pa
       ∙ ap (λ o. last_from o rest)
       (by (eqb paper p) (numbered state.papers p) x
       ∙ ap (λ b. option_map part (cond b (Some x) (numbered state.papers p)))
-      (ap (λ n. eqb n p) fits.0 ∙ turned (length state.papers + 1) p)
+      (ap (λ n. eqb n p) fits.0 ∙ eqb-swap (length state.papers + 1) p)
       ∙ ap (option_map part) (sym (numbered-push state.papers x p)))
     where
       by : (b : Bool) (o : Option Paper) (x : Paper)
@@ -211,7 +208,7 @@ uploads-entry : (p : ℕ) (state : PapersState) (maker : ℕ) (e : Entry)
     → uploads_at state p ++ upload_told p e ≡ uploads_at (papers_after state maker e) p
 uploads-entry p state maker (Uploaded paper version content) =
     let made : Filed Upload = filed paper (record { version = version; content = content }) in
-    ap (λ b. uploads_at state p ++ given b made.value) (turned paper p)
+    ap (λ b. uploads_at state p ++ given b made.value) (eqb-swap paper p)
     ∙ sym (filed_of-with_filed p made state.uploads)
 uploads-entry p state maker e = append-nil (uploads_at state p)
 
@@ -227,9 +224,9 @@ uploads_of-tables p H =
 authors-entry : (p : ℕ) (ties : TiesState) (maker : ℕ) (e : Entry)
     → authors_in ties p ++ author_told p maker e ≡ authors_in (ties_after ties maker e) p
 authors-entry p ties maker (Submitted paper title abstract) =
-    ap (λ b. authors_in ties p ++ given b maker) (turned paper p)
+    ap (λ b. authors_in ties p ++ given b maker) (eqb-swap paper p)
     ∙ sym (users_tied_to-push p ties.authors paper maker)
-authors-entry p ties maker (Coauthor paper user) = ap (λ b. authors_in ties p ++ given b user) (turned paper p)
+authors-entry p ties maker (Coauthor paper user) = ap (λ b. authors_in ties p ++ given b user) (eqb-swap paper p)
     ∙ sym (users_tied_to-push p ties.authors paper user)
 authors-entry p ties maker (Conflict paper user on) = append-nil (authors_in ties p)
 authors-entry p ties maker e = append-nil (authors_in ties p)

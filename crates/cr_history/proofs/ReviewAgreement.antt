@@ -19,7 +19,7 @@ use Rattle.cr_base.specs.Reviews.{ReviewsState, reviews_after, forms_in, last_fo
 use Rattle.cr_base.specs.Tables.{Tables, no_tables, tables_of}
 use Rattle.cr_base.proofs.FiledLaws.{filter-constant, filed_of-with_filed}
 use Rattle.cr_base.proofs.LastLaws.{last_or-cons, last_from-map, is_nothing-map}
-use Rattle.cr_base.proofs.ListLaws.{turned}
+use Rattle.cr_base.proofs.Small.{eqb-swap}
 use Rattle.cr_history.proofs.Folds.{told-always}
 
 -- ---- one entry
@@ -39,7 +39,7 @@ forms_in-after p o reviews (Reviewed paper ordinal version form) =
     ap (filter under) (filed_of-with_filed p (filed paper w) reviews.forms)
     ∙ filter-append under (filed_of p reviews.forms) (given (eqb p paper) w)
     ∙ ap (λ (ws : List WrittenForm). forms_in reviews p o ++ ws)
-    (by (eqb p paper) ∙ ap (λ b. given (b && eqb ordinal o) w) (turned p paper))
+    (by (eqb p paper) ∙ ap (λ b. given (b && eqb ordinal o) w) (eqb-swap p paper))
   where
     w : WrittenForm
     w = record { ordinal = ordinal; version = version; phase = reviews.phase; form = form }

@@ -1,6 +1,6 @@
 -- SPDX-License-Identifier: Apache-2.0 OR MIT
 -- What the rules ask of a history: the facts that they read, and whom names, papers and conflicts stand for.
-use Rattle.std.proofs.Common.{ℕ, Bool, true, false, cond, ◌≡◌, arith, List, [], ◌∷◌, length, eqb, refl}
+use Rattle.std.proofs.Common.{ℕ, Bool, true, false, cond, ◌≡◌, List, [], ◌∷◌, length, eqb, refl}
 use Rattle.std.proofs.Common.{sym, ap, ◌∙◌, ◌||◌, ◌&&◌, Option, Some, None}
 use Rattle.std.specs.Prelude.{not, is_none, unwrap_or, map}
 use Rattle.std.specs.List.{AllByRecursion, list_any, find, flat_map}
@@ -31,6 +31,7 @@ use Rattle.cr_base.specs.Checks.{conflict_case}
 use Rattle.cr_base.specs.Sources.{Facts, Shown, users_among, role_among}
 use Rattle.cr_base.proofs.CheckLaws.{NoneBroken}
 use Rattle.cr_base.proofs.CoauthorLaws.{users-each}
+use Rattle.cr_base.proofs.Small.{and_not_and_from}
 use Rattle.cr_history.specs.Invariants.{IsRegistered, IsByRight, is_of_paper}
 use Rattle.cr_history.specs.Groups.{IsRuled}
 
@@ -186,11 +187,6 @@ module _ (H : History) (maker paper user : ℕ) where
       → is_of_paper H user paper ≡ true
   of-paper role external r e h = sym (λ i. is_member (r i) || e i) ∙ h
 
-  -- a chair in no conflict with the paper is told all of its conflicts, from the bidding
-  told-all : (chair conflicted early : Bool) → chair ≡ true → conflicted ≡ false → early ≡ true
-      → ((chair && not conflicted) && early) ≡ true
-  told-all chair conflicted early hc hf hb = grind arith
-
   abbrev pub named : Role → Bool → Bool → Bool → Bool → Bool → Target
   named role herself author conflicted reviewer external =
       record {
@@ -211,7 +207,7 @@ module _ (H : History) (maker paper user : ℕ) where
   case-ruled false bidding after withdrawn late role herself author conflicted reviewer external b l r h e none =
       let now = and_parts begun (not final) (not-false (begun && not final) none.1.1.0) in
       let chair = not-false (is_chair by_maker.role) none.0 in
-      let told = told-all (is_chair by_maker.role) by_maker.conflicted begun chair none.1.0 now.0 in
+      let told = and_not_and_from (is_chair by_maker.role) by_maker.conflicted begun chair none.1.0 now.0 in
       conflict-ruled false (not-true final now.1)
       (of-paper role external r (e told) (not-false (is_member role || external) none.1.1.1.1.0))
       (clear-right begun (eqb user maker) false (is_member by_maker.role) (is_chair by_maker.role) by_maker.conflicted
@@ -231,7 +227,7 @@ module _ (H : History) (maker paper user : ℕ) where
       (not-false (is_member by_maker.role) none.0))
   case-ruled true true false withdrawn late role false author conflicted reviewer external b l r h e none =
       let chair = not-false (is_chair by_maker.role) none.0 in
-      let told = told-all (is_chair by_maker.role) by_maker.conflicted begun chair none.1.0 b in
+      let told = and_not_and_from (is_chair by_maker.role) by_maker.conflicted begun chair none.1.0 b in
       conflict-ruled true l (of-paper role external r (e told) (not-false (is_member role || external) none.1.1.1.0))
       (clear-right begun (eqb user maker) true (is_member by_maker.role) (is_chair by_maker.role) by_maker.conflicted
       by_maker.author b chair none.1.0)

@@ -45,6 +45,7 @@ use Rattle.cr_base.specs.Sources.{target_named, is_late}
 use Rattle.cr_base.proofs.CheckLaws.{NoneBroken, judged-Ok, judged-none}
 use Rattle.cr_base.proofs.FitLaws.{none-where, some-where}
 use Rattle.cr_base.proofs.TargetLaws.{is_none-asked, target_role-of}
+use Rattle.cr_base.proofs.Small.{and_not_from}
 use Rattle.cr_history.specs.Invariants.{IsRegistered}
 use Rattle.cr_history.specs.Groups.{IsRuled, IsBoundedStamp, Adds, single, submitted, first_user}
 use Rattle.cr_history.proofs.RuleFacts.{facts_of, role-among, users-registered, author-named, submitting, begun}
@@ -156,10 +157,6 @@ module _ (H : History) (stamp : Stamp) (shown : Shown) (bounds : IsBoundedStamp 
       (outside-told p v k.role k.held) k.holds.1.1
 
   -- ---- assignments
-
-  -- a member in no conflict
-  clear : (member conflicted : Bool) → member ≡ true → conflicted ≡ false → (member && not conflicted) ≡ true
-  clear member conflicted hm hf = grind arith
 
   -- a chair who assigns or unassigns is told all of the paper's conflicts and reviewers
   chair-told : (p : ℕ) (withdrawn : Bool) → NoneBroken (chair_checks (standing_of (Some maker) (Some p) H) withdrawn)
@@ -409,7 +406,7 @@ module _ (H : History) (stamp : Stamp) (shown : Shown) (bounds : IsBoundedStamp 
         chair = tt;
         role = tt;
         member = tt;
-        right = clear (is_member by.role) by.conflicted (not-false (is_member by.role) none.1.0) none.1.1.0;
+        right = and_not_from (is_member by.role) by.conflicted (not-false (is_member by.role) none.1.0) none.1.1.0;
         seat = tt;
         texts = bounded;
       })
@@ -433,7 +430,7 @@ module _ (H : History) (stamp : Stamp) (shown : Shown) (bounds : IsBoundedStamp 
         chair = tt;
         role = tt;
         member = tt;
-        right = clear (is_admitted by) by.conflicted (not-false (is_admitted by) none.1.0) none.1.1.0;
+        right = and_not_from (is_admitted by) by.conflicted (not-false (is_admitted by) none.1.0) none.1.1.0;
         seat = some-where (facts.own_ordinal p) (not-false (is_some (facts.own_ordinal p)) none.1.1.1.0);
         texts = bounded;
       })
@@ -446,7 +443,7 @@ module _ (H : History) (stamp : Stamp) (shown : Shown) (bounds : IsBoundedStamp 
         chair = tt;
         role = tt;
         member = tt;
-        right = clear (is_member by.role) by.conflicted (not-false (is_member by.role) none.1.0) none.1.1.0;
+        right = and_not_from (is_member by.role) by.conflicted (not-false (is_member by.role) none.1.0) none.1.1.0;
         seat = refl;
         texts = bounded;
       })
@@ -460,7 +457,7 @@ module _ (H : History) (stamp : Stamp) (shown : Shown) (bounds : IsBoundedStamp 
         role = tt;
         member = tt;
         right =
-            (clear (is_member by.role) by.conflicted (not-false (is_member by.role) none.1.1.0) none.1.1.1.0, none.1.0);
+            (and_not_from (is_member by.role) by.conflicted (not-false (is_member by.role) none.1.1.0) none.1.1.1.0, none.1.0);
         seat = tt;
         texts = bounded;
       })

@@ -21,9 +21,9 @@ use Rattle.cr_base.specs.Seats.{SeatsState, seat_tie, vacated, is_seat, without_
 use Rattle.cr_base.specs.Seats.{labels_in, told_seat, seats_in, reviewers_in, ordinal_in, SeatsFit, SeatsInOrder}
 use Rattle.cr_base.specs.Shapes.{InRange, ordinal_range}
 use Rattle.cr_base.specs.Tables.{Tables, no_tables, tables_after, tables_from, tables_of, FitInTurn}
-use Rattle.cr_base.proofs.ListLaws.{turned}
 use Rattle.cr_base.proofs.SeatLaws.{left_at, ties_of-with_seat, ties_of-without_seat, labels_in-after, ordinal_in-after}
 use Rattle.cr_base.proofs.SeatLaws.{seats-in_order-after, seats-in_order-nil, ordinal_in-drawn, labels_in-few}
+use Rattle.cr_base.proofs.Small.{eqb-swap}
 use Rattle.cr_history.proofs.Folds.{last_or-append, told-always, told-kept}
 use Rattle.cr_history.proofs.ListCuts.{AllByRecursion-append, AllByRecursion-map, AllByRecursion-filter}
 
@@ -46,7 +46,7 @@ seats-entry : (p : ℕ) (seats : SeatsState) (e : Entry)
 seats-entry p seats (Assigned paper user kind ordinal) =
     let s : Tie Seat = seat_tie paper user kind ordinal in
     let before : List SeatTold = map told_seat (ties_of ByPaper p seats) in
-    ap (λ b. before ++ given b (told_seat s)) (turned paper p)
+    ap (λ b. before ++ given b (told_seat s)) (eqb-swap paper p)
     ∙ ap (λ us. before ++ us) (by (eqb p paper) s)
     ∙ sym (ap (map told_seat) (ties_of-with_seat p s seats) ∙ map-append told_seat (ties_of ByPaper p seats)
     (given (eqb p paper) s))

@@ -3,6 +3,7 @@
 use Rattle.std.proofs.Common.{◌≡◌, ℕ, Bool, true, false, List, [], ◌∷◌, ◌++◌, refl, ap, ◌∙◌, Option, None}
 use Rattle.std.specs.Prelude.{◌||◌}
 use Rattle.std.specs.List.{list_any}
+use Rattle.std.proofs.Math.Bool.{or-false}
 use Rattle.cr_base.specs.declared.entry.Entry.{Entry}
 use Rattle.cr_base.specs.declared.deadline.Deadlines.{Deadlines}
 use Rattle.cr_base.specs.declared.entry.Entry.TheVariants.{PhaseSet, ModeSet, DeadlineSet}
@@ -48,11 +49,7 @@ opened-entry stage e rest = refl
 
 opened-from : (t : Tables) (H : History)
     → (t.stage.had_response || list_any opens_response H) ≡ (tables_from t H).stage.had_response
-opened-from t [] = by t.stage.had_response
-  where
-    by : (had : Bool) → (had || false) ≡ had
-    by true = refl
-    by false = refl
+opened-from t [] = or-false t.stage.had_response
 opened-from t (s ∷ H) = opened-entry t.stage s.entry (list_any opens_response H) ∙ opened-from (tables_after t s) H
 
 -- it was where the tables say so

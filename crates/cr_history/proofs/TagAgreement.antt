@@ -13,7 +13,7 @@ use Rattle.cr_base.specs.Lists.{given}
 use Rattle.cr_base.specs.Tables.{Tables, no_tables, tables_of}
 use Rattle.cr_base.specs.Tags.{TagsState, tag_owner, with_tag, tags_after}
 use Rattle.cr_base.proofs.FiledLaws.{filed_of-tag_switched}
-use Rattle.cr_base.proofs.ListLaws.{turned}
+use Rattle.cr_base.proofs.Small.{eqb-swap}
 use Rattle.cr_history.proofs.Folds.{told-always}
 
 -- these tags, and what more turnings leave on
@@ -24,7 +24,7 @@ tag-entry : (p : ℕ) (tags : TagsState) (maker : ℕ) (e : Entry) (rest : List 
     → turned_on (filed_of p tags) (tag_told p maker e ++ rest) ≡ turned_on (filed_of p (tags_after tags maker e)) rest
 tag-entry p tags maker (Tagged paper tag on) rest =
     by (eqb paper p)
-    ∙ ap (λ (b : Bool). turned_on (cond b (with_tag on set (filed_of p tags)) (filed_of p tags)) rest) (turned paper p)
+    ∙ ap (λ (b : Bool). turned_on (cond b (with_tag on set (filed_of p tags)) (filed_of p tags)) rest) (eqb-swap paper p)
     ∙ ap (λ (ts : List SetTag). turned_on ts rest) (sym (filed_of-tag_switched p on (filed paper set) tags))
   where
     set : SetTag

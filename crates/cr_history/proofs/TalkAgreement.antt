@@ -15,7 +15,7 @@ use Rattle.cr_base.specs.Lists.{given, last}
 use Rattle.cr_base.specs.Tables.{Tables, no_tables, tables_of}
 use Rattle.cr_base.specs.Talk.{TalkState, talk_after, comments_in, comment_as_told, own_comments_in, response_in}
 use Rattle.cr_base.proofs.FiledLaws.{filed_of-with_filed}
-use Rattle.cr_base.proofs.ListLaws.{turned}
+use Rattle.cr_base.proofs.Small.{eqb-swap}
 use Rattle.cr_history.proofs.CountAgreement.{sum_at, sum-with_one, sum-tables}
 use Rattle.cr_history.proofs.Folds.{told-always}
 
@@ -26,7 +26,7 @@ comments-entry : (p : ℕ) (talk : TalkState) (maker : ℕ) (e : Entry)
     ≡ map comment_as_told (comments_in (talk_after talk maker e) p)
 comments-entry p talk maker (Commented paper n ordinal text) =
     let before : List CommentTold = map comment_as_told (comments_in talk p) in
-    ap (λ b. before ++ given b (comment_as_told comment)) (turned paper p)
+    ap (λ b. before ++ given b (comment_as_told comment)) (eqb-swap paper p)
     ∙ ap (λ (cs : List CommentTold). before ++ cs) (by (eqb p paper))
     ∙ sym (ap (map comment_as_told) (filed_of-with_filed p (filed paper comment) talk.comments)
     ∙ map-append comment_as_told (comments_in talk p) (given (eqb p paper) comment))
@@ -54,7 +54,7 @@ comments_of-tables p H =
 responses-entry : (p : ℕ) (talk : TalkState) (maker : ℕ) (e : Entry)
     → filed_of p talk.responses ++ response_told p e ≡ filed_of p (talk_after talk maker e).responses
 responses-entry p talk maker (Responded paper text) =
-    ap (λ b. filed_of p talk.responses ++ given b text) (turned paper p)
+    ap (λ b. filed_of p talk.responses ++ given b text) (eqb-swap paper p)
     ∙ sym (filed_of-with_filed p (filed paper text) talk.responses)
 responses-entry p talk maker e = append-nil (filed_of p talk.responses)
 

@@ -1,23 +1,28 @@
 -- SPDX-License-Identifier: Apache-2.0 OR MIT
 -- Invariants: what is so of each entry of a legal history, on the history before it, and of the history as a whole.
 use Rattle.std.specs.Prelude.{ℕ, Bool, false, ◌≡◌, ◌==◌, ◌<◌, ◌+◌, ◌&&◌, ◌||◌, not, [], ◌∷◌}
-use Rattle.std.specs.Prelude.{◌++◌, length, nat_le, Some, None, IsTrue, IsFalse, if◌then◌else◌}
+use Rattle.std.specs.Prelude.{◌++◌, length, nat_le, Option, Some, None, unwrap_or, IsTrue, IsFalse, if◌then◌else◌}
 use Rattle.std.specs.List.{All, AllByRecursion, list_any}
 use Rattle.cr_base.specs.declared.entry.Entry.{Entry}
-use Rattle.cr_base.specs.declared.entry.Entry.TheVariants.{Registered, Named, PhaseSet, ModeSet, Submitted}
-use Rattle.cr_base.specs.declared.entry.Entry.TheVariants.{Coauthor, Revised, Uploaded, Withdrawn, Conflict}
-use Rattle.cr_base.specs.declared.entry.Entry.TheVariants.{Bid, Assigned, Unassigned, Reviewed}
-use Rattle.cr_base.specs.declared.entry.Entry.TheVariants.{Commented, Tagged, Decided, DeadlineSet}
-use Rattle.cr_base.specs.declared.entry.Entry.TheVariants.{Dismissed, Invited, Uninvited, Responded}
+use Rattle.cr_base.specs.declared.entry.Entry.TheVariants.{Registered, Named, PhaseSet, Submitted}
+use Rattle.cr_base.specs.declared.entry.Entry.TheVariants.{Coauthor, Uploaded, Conflict}
+use Rattle.cr_base.specs.declared.entry.Entry.TheVariants.{Assigned, Unassigned, Reviewed}
+use Rattle.cr_base.specs.declared.entry.Entry.TheVariants.{Commented, Tagged, DeadlineSet}
+use Rattle.cr_base.specs.declared.entry.Entry.TheVariants.{Dismissed, Invited, Uninvited}
+use Rattle.cr_base.specs.declared.entry.EntryKind.{EntryKind}
+use Rattle.cr_base.specs.declared.entry.EntryKind.TheVariants as kinds
 use Rattle.cr_base.specs.declared.entry.Stamped.{Stamped}
-use Rattle.cr_base.specs.declared.words.Phase.TheVariants.{Bidding, Response, Discussion}
+use Rattle.cr_base.specs.declared.words.Phase.{Phase}
+use Rattle.cr_base.specs.declared.words.Phase.TheVariants.{Bidding, Response}
 use Rattle.cr_base.specs.Accounts.{chair_count}
 use Rattle.cr_base.specs.HistoryFacts.{phase_of, role_of, accounts_of, papers_of, uploads_of}
 use Rattle.cr_base.specs.HistoryFacts.{number_of, is_author, is_conflicted, is_invited, is_external, ordinal_of}
 use Rattle.cr_base.specs.HistoryFacts.{seats_of, had_response_of}
 use Rattle.cr_base.specs.HistoryFacts.{forms_of, is_written, comments_of}
 use Rattle.cr_base.specs.History.{History, Registration, all_told, registration_told, opens, opens_discussion}
+use Rattle.cr_base.specs.History.{paper_about, user_about}
 use Rattle.cr_base.specs.Lists.{until, since}
+use Rattle.cr_base.specs.Phases.{committee_reads_from}
 use Rattle.cr_base.specs.Phases.{is_from, is_next, mode_may_be_set, accepts_submissions, papers_may_change}
 use Rattle.cr_base.specs.Phases.{may_have_deadline}
 use Rattle.cr_base.specs.Phases.{authors_have_declared, conflicts_are_final, roles_are_final, committee_works}
@@ -37,27 +42,7 @@ IsRegistered H user = IsTrue (list_any (λ (r : Registration). r.user == user) (
 -- a registration is made by its own user; every other entry is made by a user who has registered before
 abbrev pub IsMadeByUser : History → ℕ → Entry → Type 0
 IsMadeByUser H maker (Registered user name digest) = maker ≡ user
-IsMadeByUser H maker (Named user role) = IsRegistered H maker
-IsMadeByUser H maker (PhaseSet phase) = IsRegistered H maker
-IsMadeByUser H maker (ModeSet mode) = IsRegistered H maker
-IsMadeByUser H maker (Submitted paper title abstract) = IsRegistered H maker
-IsMadeByUser H maker (Coauthor paper user) = IsRegistered H maker
-IsMadeByUser H maker (Revised paper title abstract) = IsRegistered H maker
-IsMadeByUser H maker (Uploaded paper version content) = IsRegistered H maker
-IsMadeByUser H maker (Withdrawn paper) = IsRegistered H maker
-IsMadeByUser H maker (Conflict paper user on) = IsRegistered H maker
-IsMadeByUser H maker (Bid paper value) = IsRegistered H maker
-IsMadeByUser H maker (Assigned paper user kind ordinal) = IsRegistered H maker
-IsMadeByUser H maker (Unassigned paper user ordinal) = IsRegistered H maker
-IsMadeByUser H maker (Reviewed paper ordinal version form) = IsRegistered H maker
-IsMadeByUser H maker (Commented paper n ordinal text) = IsRegistered H maker
-IsMadeByUser H maker (Tagged paper tag on) = IsRegistered H maker
-IsMadeByUser H maker (Decided paper decision) = IsRegistered H maker
-IsMadeByUser H maker (DeadlineSet phase until) = IsRegistered H maker
-IsMadeByUser H maker (Dismissed user) = IsRegistered H maker
-IsMadeByUser H maker (Invited paper user) = IsRegistered H maker
-IsMadeByUser H maker (Uninvited paper user) = IsRegistered H maker
-IsMadeByUser H maker (Responded paper text) = IsRegistered H maker
+IsMadeByUser H maker e = IsRegistered H maker
 
 -- the mark `more` of an entry that commands add: after the first user's registration another entry of the command
 -- follows; after a submission, a co-author and an entry of a bulk one may
@@ -92,72 +77,88 @@ HasNewName H _ = Unit {0}
 abbrev pub IsSubmitted : History → ℕ → Type 0
 IsSubmitted H paper = IsTrue (list_any (λ p. p == paper) (papers_of H))
 
--- the user and the paper that it is about are there
+-- the paper and the user are there
+abbrev pub AreThere : History → Option ℕ → Option ℕ → Type 0
+AreThere H None None = Unit {0}
+AreThere H None (Some user) = IsRegistered H user
+AreThere H (Some paper) None = IsSubmitted H paper
+AreThere H (Some paper) (Some user) = IsSubmitted H paper × IsRegistered H user
+
+-- the paper and the user that the entry is about are there
 abbrev pub IsAboutThose : History → Entry → Type 0
-IsAboutThose H (Named user role) = IsRegistered H user
-IsAboutThose H (Coauthor paper user) = IsSubmitted H paper × IsRegistered H user
-IsAboutThose H (Revised paper title abstract) = IsSubmitted H paper
-IsAboutThose H (Uploaded paper version content) = IsSubmitted H paper
-IsAboutThose H (Withdrawn paper) = IsSubmitted H paper
-IsAboutThose H (Conflict paper user on) = IsSubmitted H paper × IsRegistered H user
-IsAboutThose H (Bid paper value) = IsSubmitted H paper
-IsAboutThose H (Assigned paper user kind ordinal) = IsSubmitted H paper × IsRegistered H user
-IsAboutThose H (Unassigned paper user ordinal) = IsSubmitted H paper × IsRegistered H user
-IsAboutThose H (Reviewed paper ordinal version form) = IsSubmitted H paper
-IsAboutThose H (Commented paper n ordinal text) = IsSubmitted H paper
-IsAboutThose H (Tagged paper tag on) = IsSubmitted H paper
-IsAboutThose H (Decided paper decision) = IsSubmitted H paper
-IsAboutThose H (Dismissed user) = IsRegistered H user
-IsAboutThose H (Invited paper user) = IsSubmitted H paper × IsRegistered H user
-IsAboutThose H (Uninvited paper user) = IsSubmitted H paper × IsRegistered H user
-IsAboutThose H (Responded paper text) = IsSubmitted H paper
-IsAboutThose H _ = Unit {0}
+IsAboutThose H e = AreThere H (paper_about e) (user_about e)
 
--- the phase goes on to a next one; the mode is set in setup; papers are submitted, changed and withdrawn in submission;
--- from the notification on nobody is named a member or a chair or dismissed, and no conflict is turned on or off; bids
--- are told in bidding; reviewers are assigned and unassigned, externals invited and no longer, and tags turned on and
--- off, from bidding to discussion; forms are written in reviewing and in the discussion, responses in the response,
--- and comments in the discussion, where the committee decides too; and deadlines are set of the current phase, and of
--- later ones, where the phase may have one
+-- who may make entries of a kind, as far as roles and ties to a paper tell: anybody, the paper's authors, members in no
+-- conflict with it, they and its externals in none, chairs, and chairs in no conflict with it
+pub data Right : Type 0 where
+  Anybody : Right
+  Author : Right
+  ClearMember : Right
+  ClearOfPaper : Right
+  Chair : Right
+  ClearChair : Right
+
+-- what is asked for an entry of a kind: of the phase before it, and of its maker
+pub record Charter : Type 1 where
+  pub during : Phase → Type 0
+  pub right : Right
+
+-- a charter: entries of a kind are made in these phases, by users with this right
+abbrev pub while : (Phase → Bool) → Right → Charter
+while may right = record { during = λ phase. IsTrue (may phase); right = right }
+
+-- a charter: entries of a kind are made in all phases but these, by users with this right
+abbrev pub until_final : (Phase → Bool) → Right → Charter
+until_final is_final right = record { during = λ phase. IsFalse (is_final phase); right = right }
+
+-- a charter: entries of a kind are made in every phase, by users with this right
+abbrev pub ever : Right → Charter
+ever right = record { during = λ phase. Unit {0}; right = right }
+
+-- the charter: in which phases each kind of entry is made, and which right its maker has. What else is asked of phases
+-- and deadlines, appointments, conflicts and tags is said of these kinds below.
+abbrev pub charter : EntryKind → Charter
+charter kinds.Registered = ever Anybody
+charter kinds.Named = until_final roles_are_final Chair
+charter kinds.PhaseSet = ever Chair
+charter kinds.ModeSet = while mode_may_be_set Chair
+charter kinds.Submitted = while accepts_submissions Anybody
+charter kinds.Coauthor = while accepts_submissions Author
+charter kinds.Revised = while papers_may_change Author
+charter kinds.Uploaded = while papers_may_change Author
+charter kinds.Withdrawn = while papers_may_change Author
+charter kinds.Conflict = until_final conflicts_are_final Anybody
+charter kinds.Bid = while bids_are_taken ClearMember
+charter kinds.Assigned = while committee_works ClearChair
+charter kinds.Unassigned = while committee_works ClearChair
+charter kinds.Reviewed = while reviews_are_written ClearOfPaper
+charter kinds.Commented = while comments_are_written ClearMember
+charter kinds.Tagged = while committee_works ClearMember
+charter kinds.Decided = while decisions_are_made ClearChair
+charter kinds.DeadlineSet = ever Chair
+charter kinds.Dismissed = until_final roles_are_final Chair
+charter kinds.Invited = while committee_works ClearChair
+charter kinds.Uninvited = while committee_works ClearChair
+charter kinds.Responded = while responses_are_written Author
+
+-- the phase is one of the charter's; it goes on to a next one, and deadlines are set of the current phase and of later
+-- ones, where the phase may have one
 abbrev pub IsInPhase : History → Entry → Type 0
-IsInPhase H (Registered user name digest) = Unit {0}
-IsInPhase H (Named user role) = IsFalse (roles_are_final (phase_of H))
 IsInPhase H (PhaseSet phase) = IsTrue (is_next (phase_of H) phase)
-IsInPhase H (ModeSet mode) = IsTrue (mode_may_be_set (phase_of H))
-IsInPhase H (Submitted paper title abstract) = IsTrue (accepts_submissions (phase_of H))
-IsInPhase H (Coauthor paper user) = IsTrue (accepts_submissions (phase_of H))
-IsInPhase H (Revised paper title abstract) = IsTrue (papers_may_change (phase_of H))
-IsInPhase H (Uploaded paper version content) = IsTrue (papers_may_change (phase_of H))
-IsInPhase H (Withdrawn paper) = IsTrue (papers_may_change (phase_of H))
-IsInPhase H (Conflict paper user on) = IsFalse (conflicts_are_final (phase_of H))
-IsInPhase H (Bid paper value) = IsTrue (bids_are_taken (phase_of H))
-IsInPhase H (Assigned paper user kind ordinal) = IsTrue (committee_works (phase_of H))
-IsInPhase H (Unassigned paper user ordinal) = IsTrue (committee_works (phase_of H))
-IsInPhase H (Reviewed paper ordinal version form) = IsTrue (reviews_are_written (phase_of H))
-IsInPhase H (Commented paper n ordinal text) = IsTrue (comments_are_written (phase_of H))
-IsInPhase H (Tagged paper tag on) = IsTrue (committee_works (phase_of H))
-IsInPhase H (Decided paper decision) = IsTrue (decisions_are_made (phase_of H))
 IsInPhase H (DeadlineSet phase until) = IsTrue (is_from (phase_of H) phase) × IsTrue (may_have_deadline phase)
-IsInPhase H (Dismissed user) = IsFalse (roles_are_final (phase_of H))
-IsInPhase H (Invited paper user) = IsTrue (committee_works (phase_of H))
-IsInPhase H (Uninvited paper user) = IsTrue (committee_works (phase_of H))
-IsInPhase H (Responded paper text) = IsTrue (responses_are_written (phase_of H))
+IsInPhase H e = (charter (kind_of e)).during (phase_of H)
 
--- chairs set the phase, the mode and deadlines, name members and chairs and dismiss them, assign and unassign
--- reviewers, invite externals and take that back, and decide; the first user alone is named otherwise, as she
--- registers, by the second entry of all
+-- where the charter asks for a chair, the maker is one
+abbrev pub IsChairIf : History → ℕ → Right → Type 0
+IsChairIf H maker Chair = IsTrue (is_chair (role_of (Some maker) H))
+IsChairIf H maker ClearChair = IsTrue (is_chair (role_of (Some maker) H))
+IsChairIf H maker right = Unit {0}
+
+-- a chair made the entry, if its charter asks for one; the first user is appointed otherwise, by the second entry of
+-- all, with the registration
 abbrev pub IsByChair : History → ℕ → Entry → Type 0
 IsByChair H maker (Named user role) = IsTrue (is_chair (role_of (Some maker) H) || length H == 1)
-IsByChair H maker (PhaseSet phase) = IsTrue (is_chair (role_of (Some maker) H))
-IsByChair H maker (ModeSet mode) = IsTrue (is_chair (role_of (Some maker) H))
-IsByChair H maker (Assigned paper user kind ordinal) = IsTrue (is_chair (role_of (Some maker) H))
-IsByChair H maker (Unassigned paper user ordinal) = IsTrue (is_chair (role_of (Some maker) H))
-IsByChair H maker (Decided paper decision) = IsTrue (is_chair (role_of (Some maker) H))
-IsByChair H maker (DeadlineSet phase until) = IsTrue (is_chair (role_of (Some maker) H))
-IsByChair H maker (Dismissed user) = IsTrue (is_chair (role_of (Some maker) H))
-IsByChair H maker (Invited paper user) = IsTrue (is_chair (role_of (Some maker) H))
-IsByChair H maker (Uninvited paper user) = IsTrue (is_chair (role_of (Some maker) H))
-IsByChair H maker _ = Unit {0}
+IsByChair H maker e = IsChairIf H maker (charter (kind_of e)).right
 
 -- naming raises a role, and dismissing ends a member's, and never that of the only chair
 abbrev pub RaisesRole : History → Entry → Type 0
@@ -195,28 +196,22 @@ is_clear_member_of H maker paper = is_member (role_of (Some maker) H) && not (is
 abbrev pub is_clear_of_paper : History → ℕ → ℕ → Bool
 is_clear_of_paper H maker paper = is_of_paper H maker paper && not (is_conflicted (Some maker) paper H)
 
--- and a paper's authors alone name its co-authors, revise it, upload its content, withdraw it and respond; members in
--- no conflict with it bid on it, comment on it and tag it, chairs alone with tags for chairs; they and its externals
--- in none review it; and chairs in none assign and unassign its reviewers, invite externals and take that back, and
--- decide on it
+-- the maker has the right on the paper; whether a chair is one is said above
+abbrev pub HasRight : History → ℕ → ℕ → Right → Type 0
+HasRight H maker paper Anybody = Unit {0}
+HasRight H maker paper Author = IsTrue (is_author (Some maker) paper H)
+HasRight H maker paper ClearMember = IsTrue (is_clear_member_of H maker paper)
+HasRight H maker paper ClearOfPaper = IsTrue (is_clear_of_paper H maker paper)
+HasRight H maker paper Chair = Unit {0}
+HasRight H maker paper ClearChair = IsFalse (is_conflicted (Some maker) paper H)
+
+-- the maker has the right that the charter asks for; of a conflict `may_turn` holds, and only chairs tag with tags for
+-- chairs
 abbrev pub IsByRight : History → ℕ → Entry → Type 0
-IsByRight H maker (Coauthor paper user) = IsTrue (is_author (Some maker) paper H)
-IsByRight H maker (Revised paper title abstract) = IsTrue (is_author (Some maker) paper H)
-IsByRight H maker (Uploaded paper version content) = IsTrue (is_author (Some maker) paper H)
-IsByRight H maker (Withdrawn paper) = IsTrue (is_author (Some maker) paper H)
 IsByRight H maker (Conflict paper user on) = IsTrue (may_turn H maker paper user on)
-IsByRight H maker (Bid paper value) = IsTrue (is_clear_member_of H maker paper)
-IsByRight H maker (Assigned paper user kind ordinal) = IsFalse (is_conflicted (Some maker) paper H)
-IsByRight H maker (Unassigned paper user ordinal) = IsFalse (is_conflicted (Some maker) paper H)
-IsByRight H maker (Reviewed paper ordinal version form) = IsTrue (is_clear_of_paper H maker paper)
-IsByRight H maker (Commented paper n ordinal text) = IsTrue (is_clear_member_of H maker paper)
 IsByRight H maker (Tagged paper tag on) =
     IsTrue (is_clear_member_of H maker paper) × IsFalse (is_for_chairs tag && not (is_chair (role_of (Some maker) H)))
-IsByRight H maker (Decided paper decision) = IsFalse (is_conflicted (Some maker) paper H)
-IsByRight H maker (Invited paper user) = IsFalse (is_conflicted (Some maker) paper H)
-IsByRight H maker (Uninvited paper user) = IsFalse (is_conflicted (Some maker) paper H)
-IsByRight H maker (Responded paper text) = IsTrue (is_author (Some maker) paper H)
-IsByRight H maker _ = Unit {0}
+IsByRight H maker e = HasRight H maker (unwrap_or (paper_about e) 0) (charter (kind_of e)).right
 
 -- an assigned user is in no conflict with the paper and doesn't review it, and it has a label left; an unassigned user
 -- reviews it under that label, and has written no form under it; a form is under its maker's own label, and a comment
@@ -308,7 +303,7 @@ pub record DeclaresInTime (H : History) : Type 0 where
 
 -- the discussion was opened exactly where it is that phase or a later one
 abbrev pub IsDiscussedInTime : History → Type 0
-IsDiscussedInTime H = list_any opens_discussion H ≡ is_from Discussion (phase_of H)
+IsDiscussedInTime H = list_any opens_discussion H ≡ is_from committee_reads_from (phase_of H)
 
 -- the response was opened at most where it is that phase or a later one: a conference may skip it
 abbrev pub IsRespondedInTime : History → Type 0

@@ -11,6 +11,7 @@ use Rattle.cr_http.specs.Extent.{spans_head}
 use Rattle.cr_http.specs.declared.framing.Framing.TheVariants.{Body}
 use Rattle.cr_http.specs.declared.refusal.Refusal.TheVariants.{HeadTooLarge, BadHttp}
 use Rattle.std.proofs.lemmas.List.{drop-drop}
+use Rattle.std.proofs.lemmas.Bool.{le-leb, lt-ltb, leb-true}
 use Rattle.cr_http.specs.declared.fill_body.BodyFill.{BodyFill}
 use Rattle.cr_http.specs.declared.head_range.HeadRange.{HeadRange}
 use Rattle.cr_http.specs.declared.inbox.Extent.{Extent}
@@ -28,9 +29,6 @@ use Rattle.cr_http.specs.Found.{Found, whole, refused, cut, with_body, line_feed
 use Rattle.cr_http.specs.Found.{StandsAt, IsFramed, IsFinal, without_head, clean}
 use Rattle.cr_http.proofs.Windows.{head_at-append, head_at_bounds}
 use Rattle.cr_http.proofs.Founds.{slice_range-append, settled-append}
-
-le_true : (m n : ℕ) → m ≤ n → nat_le m n ≡ true
-le_true m n le = grind arith
 
 le_false : (m n : ℕ) → n < m → nat_le m n ≡ false
 le_false m n lt = grind arith
@@ -89,7 +87,7 @@ pub framed_whole : (text : List ℕ) (start end : ℕ) (head : HeadText) (len : 
 framed_whole text start end head len f le =
     let d = length-drop end text in
     let enough : nat_le len (length (drop end text)) ≡ true =
-    le_true len (length (drop end text)) (omega (arith, d, le)) in
+    le-leb len (length (drop end text)) (omega (arith, d, le)) in
     subst (StandsAt text) (ap (λ b. if b then whole head (take len (drop end text)) (drop len (drop end text)) else cut)
     enough)
     (framed_stands text start end head len f)
@@ -213,12 +211,6 @@ body_cut left left' old text range head len m f short =
     framed_cut text range.start range.end head len (framed_moved left left' old text range.start range.end head len m f)
     short
 
-pub short_is : (m n : ℕ) → m < n → nat_lt m n ≡ true
-short_is m n lt = grind arith
-
-fits_is : (m n : ℕ) → nat_le m n ≡ true → m ≤ n
-fits_is m n e = grind arith
-
 past_is : (m n : ℕ) → nat_le m n ≡ false → n < m
 past_is m n e = grind arith
 
@@ -256,7 +248,7 @@ is_full m n le = grind arith
 pub settled_needs_no_head : (text : List ℕ) → IsSettled text → NeedsHead text → ⊥
 settled_needs_no_head text s needs =
     let is : s.0 ≡ without_head text = subst (λ (o : Option (ℕ × ℕ)). StandsFrom text o s.0) needs.0 s.2 in
-    none (nat_lt (length text) 16384) (blank_end_from 0 text == length text) (short_is (length text) 16384 needs.1)
+    none (nat_lt (length text) 16384) (blank_end_from 0 text == length text) (lt-ltb (length text) 16384 needs.1)
     (subst IsFinal is s.1)
   where
     none : (t u : Bool) → t ≡ true → IsFinal (if t then (if u then clean else cut) else refused HeadTooLarge false) → ⊥
@@ -270,7 +262,7 @@ pub settled_has_body : (text : List ℕ) (start end : ℕ) (head : HeadText) (le
 settled_has_body text start end head len f s = there (nat_le (end + len) (length text)) refl
   where
     there : (t : Bool) → nat_le (end + len) (length text) ≡ t → end + len ≤ length text
-    there true e = fits_is (end + len) (length text) e
+    there true e = leb-true (end + len) (length text) e
     there false e =
         let short : length text < end + len = past_is (end + len) (length text) e in
         let same = StandsAt-unique text s.0 cut s.2 (framed_cut text start end head len f short) in

@@ -167,12 +167,8 @@ impl Buffer {
             end,
         } = self;
         block.truncate(end);
-        match Blob::from_vec(block) {
-            Ok(mut blob) => {
-                blob.discard(start);
-                blob.discard(n);
-                Ok(blob)
-            }
+        match Blob::from_vec_after(block, start + n) {
+            Ok(blob) => Ok(blob),
             Err(AllocFailed { value: block }) => Err(Buffer { block, start, end }),
         }
     }

@@ -1,20 +1,16 @@
 -- SPDX-License-Identifier: Apache-2.0 OR MIT
 -- How the entries of a command are marked.
 use Rattle.std.proofs.Common.{ℕ, Bool, true, false, ◌≡◌, ◌≤◌, ◌+◌, List, [], ◌∷◌, ◌++◌, length, take, refl, sym, ap}
-use Rattle.std.proofs.Common.{◌∙◌, arith, zero, suc, Some, None}
+use Rattle.std.proofs.Common.{◌∙◌, arith, zero, suc, Some}
 use Rattle.std.specs.Prelude.{nat_lt, slice_get}
 use Rattle.std.proofs.lemmas.Bool.Decides.{nat_tests}
 use Rattle.std.proofs.lemmas.List.{take_all}
+use Rattle.std.proofs.lemmas.Option.{none-some, same_Some}
+use Rattle.std.proofs.lemmas.Bool.{le-ltb}
 use Rattle.cr_base.specs.declared.entry.Entry.{Entry}
 use Rattle.cr_base.specs.declared.entry.Stamp.{Stamp}
 use Rattle.cr_base.specs.declared.entry.Stamped.{Stamped}
 use Rattle.cr_base.specs.Drawn.{stamped, grouped}
-
-none_some : {A : Type 0} (x : A) → None ≡ Some x → ⊥
-none_some x e = cc (e)
-
-some_is : {A : Type 0} (x y : A) → Some x ≡ Some y → x ≡ y
-some_is x y e = cc (e)
 
 shifted : (n m : ℕ) → nat_lt (suc n) (suc m) ≡ nat_lt n m
 shifted n m = by (nat_lt n m) refl
@@ -23,9 +19,6 @@ shifted n m = by (nat_lt n m) refl
     by true h = grind (arith, nat_tests, h)
     by false h = grind (arith, nat_tests, h)
 
-last-one : (n m : ℕ) → m ≤ n → nat_lt n m ≡ false
-last-one n m h = grind (arith, nat_tests, h)
-
 not-last : (n m : ℕ) → n + 1 ≤ m → nat_lt n m ≡ true
 not-last n m h = grind (arith, nat_tests, h)
 
@@ -33,15 +26,15 @@ not-last n m h = grind (arith, nat_tests, h)
 marked-more : (stamp : Stamp) (es : List Entry) (i : ℕ) (e : Entry) (more : Bool) → slice_get es i ≡ Some e
     → more ≡ nat_lt (suc i) (length es)
     → take (suc i) (grouped stamp es) ≡ take i (grouped stamp es) ++ stamped stamp more e ∷ []
-marked-more stamp [] i e more h is = absurd (none_some e h)
+marked-more stamp [] i e more h is = absurd (none-some e h)
 marked-more stamp (x ∷ []) zero e more h is =
-    let last : false ≡ more = sym (is ∙ last-one 1 1 (omega arith)) in
-    let same : x ≡ e = some_is x e h in
+    let last : false ≡ more = sym (is ∙ le-ltb 1 1 (omega arith)) in
+    let same : x ≡ e = same_Some x e h in
     λ j. stamped stamp (last j) (same j) ∷ []
-marked-more stamp (x ∷ []) (suc i) e more h is = absurd (none_some e h)
+marked-more stamp (x ∷ []) (suc i) e more h is = absurd (none-some e h)
 marked-more stamp (x ∷ y ∷ es) zero e more h is =
     let other : true ≡ more = sym (is ∙ not-last 1 (suc (suc (length es))) (omega arith)) in
-    let same : x ≡ e = some_is x e h in
+    let same : x ≡ e = same_Some x e h in
     λ j. stamped stamp (other j) (same j) ∷ []
 marked-more stamp (x ∷ y ∷ es) (suc i) e more h is =
     ap (λ (rest : List Stamped). stamped stamp true x ∷ rest)

@@ -1,10 +1,11 @@
 -- SPDX-License-Identifier: Apache-2.0 OR MIT
 -- What the entries of a bulk's rows leave as it was, and what is read behind them.
-use Rattle.std.proofs.Common.{ℕ, Bool, true, false, ◌≡◌, ◌&&◌, List, [], ◌∷◌, fold, refl, sym, ap, subst, ◌∙◌, Option}
+use Rattle.std.proofs.Common.{ℕ, Bool, false, ◌≡◌, ◌&&◌, List, [], ◌∷◌, fold, refl, sym, ap, subst, ◌∙◌, Option}
 use Rattle.std.proofs.Common.{Some, None}
 use Rattle.std.specs.Prelude.{is_some, not}
 use Rattle.std.specs.List.{list_any}
 use Rattle.std.specs.Option.{option_and_then}
+use Rattle.std.proofs.Math.Bool.{and-false}
 use Rattle.cr_base.specs.declared.entry.Account.{Account}
 use Rattle.cr_base.specs.declared.entry.Entry.{Entry}
 use Rattle.cr_base.specs.declared.entry.Entry.TheVariants.{Conflict, Assigned, Unassigned, Tagged}
@@ -119,11 +120,7 @@ pub nobody-invited : (member : Bool) (invites : InvitesState) (user paper : Opti
     → false ≡ at_some (λ p. not member && is_invited_in invites user p) paper
 nobody-invited member invites user None is = refl
 nobody-invited member invites user (Some p) is =
-    sym (ap (λ (u : Option ℕ). not member && is_invited_in invites u p) is ∙ no (not member))
-  where
-    no : (b : Bool) → (b && false) ≡ false
-    no true = refl
-    no false = refl
+    sym (ap (λ (u : Option ℕ). not member && is_invited_in invites u p) is ∙ and-false (not member))
 
 -- whether a user who is no member, or one who is, is invited to a paper behind them
 pub invited-behind : (t : Tables) (earlier : History) (member : Bool) (user paper : Option ℕ) (seen : InvitesState)

@@ -1,10 +1,10 @@
 -- SPDX-License-Identifier: Apache-2.0 OR MIT
 -- What is written on a paper, by reads of the tables.
-use Rattle.std.proofs.Common.{ℕ, Bool, true, false, ◌≡◌, ◌+◌, length, refl, sym, ap, ◌∙◌, Option, Some, None, Result}
+use Rattle.std.proofs.Common.{ℕ, Bool, true, ◌≡◌, ◌+◌, length, refl, sym, ap, ◌∙◌, Option, Some, None, Result}
 use Rattle.std.proofs.Common.{Ok}
-use Rattle.std.specs.Prelude.{IsSome, List, is_some, map, not, unwrap_or}
+use Rattle.std.specs.Prelude.{IsSome, List, is_some, map, unwrap_or}
 use Rattle.std.specs.Option.{option_and_then}
-use Rattle.std.proofs.lemmas.Bool.{true≢false}
+use Rattle.std.proofs.lemmas.Bool.{true≢false, not-false}
 use Rattle.std.proofs.lemmas.List.{length-map}
 use Rattle.cr_base.specs.declared.entry.Entry.TheVariants as entries
 use Rattle.cr_base.specs.Drawn.{alone}
@@ -117,17 +117,13 @@ module _ (t : Tables) (stamp : Stamp) (paper : Option ℕ) (named : Named)
       → ◌≡◌ {A = Result ℕ Rule} (Ok given) (judged (review_checks named.by told late) x) → IsSome ordinal
   is-seated late x given' h = by ordinal (reviews ∙ ap is_some (sym held))
     where
-      is-true : (b : Bool) → not b ≡ false → b ≡ true
-      is-true true none = refl
-      is-true false none = absurd (true≢false none)
-
       seated : (at : Option ℕ) → (standing_at t (Some stamp.maker) at).reviewer ≡ is_some (seat at)
       seated None = refl
       seated (Some p) = refl
 
       reviews : true ≡ is_some (seat named.paper)
       reviews =
-          sym (is-true named.by.reviewer (judged-Ok (review_checks named.by told late) x given' (sym h)).0.1.1.1.0)
+          sym (not-false named.by.reviewer (judged-Ok (review_checks named.by told late) x given' (sym h)).0.1.1.1.0)
           ∙ ap (λ (n : Named). n.by.reviewer) given
           ∙ seated (there_in t.papers paper)
           ∙ ap (λ (n : Named). is_some (seat n.paper)) (sym given)

@@ -8,17 +8,9 @@ use Rattle.std.proofs.lemmas.List.{append-nil, append_assoc, map-append, length-
 use Rattle.std.proofs.lemmas.List.Elements.{filter-append}
 use Rattle.cr_base.specs.declared.filed.Filed.{Filed}
 use Rattle.cr_base.specs.Filed.{filed, with_filed, filed_of}
+use Rattle.cr_base.proofs.Small.{eqb-self, eqb-below, eqb-above}
 use Rattle.cr_kept.specs.Seen.{SeenDrawer}
 use Rattle.cr_kept.specs.Drawers.{files_from, with_changed}
-
-same-number : (n : ℕ) → eqb n n ≡ true
-same-number n = grind (arith, nat_tests)
-
-other : (p n : ℕ) → p < n → eqb p n ≡ false
-other p n h = grind (arith, nat_tests, h)
-
-other-above : (p n : ℕ) → n < p → eqb p n ≡ false
-other-above p n h = grind (arith, nat_tests, h)
 
 upto : (p n : ℕ) → n ≤ p → nat_le n p ≡ true
 upto p n h = grind (arith, nat_tests, h)
@@ -78,16 +70,16 @@ module _ {V : Type 0} where
       ap (λ (ys : List (Filed V)). map (λ (x : Filed V). x.value) ys)
       (filter-append (λ (y : Filed V). eqb p y.paper) (map (filed n) d.values) (files_from (n + 1) ds)
       ∙ ap (λ (ys : List (Filed V)). ys ++ filter (λ (y : Filed V). eqb p y.paper) (files_from (n + 1) ds))
-      (block-all (eqb p) n d.values (subst (λ (m : ℕ). eqb p m ≡ true) here (same-number p)))
+      (block-all (eqb p) n d.values (subst (λ (m : ℕ). eqb p m ≡ true) here (eqb-self p)))
       ∙ ap (λ (ys : List (Filed V)). map (filed n) d.values ++ ys)
-      (none-from (eqb p) (n + 1) ds (λ m le. other p m (omega (arith, here, le))))
+      (none-from (eqb p) (n + 1) ds (λ m le. eqb-below p m (omega (arith, here, le))))
       ∙ append-nil (map (filed n) d.values))
       ∙ values-filed n d.values
   of-drawer p n (suc i) (d ∷ ds) is =
       ap (λ (ys : List (Filed V)). map (λ (x : Filed V). x.value) ys)
       (filter-append (λ (y : Filed V). eqb p y.paper) (map (filed n) d.values) (files_from (n + 1) ds)
       ∙ ap (λ (ys : List (Filed V)). ys ++ filter (λ (y : Filed V). eqb p y.paper) (files_from (n + 1) ds))
-      (block-none (eqb p) n d.values (other-above p n (omega (arith, is)))))
+      (block-none (eqb p) n d.values (eqb-above p n (omega (arith, is)))))
       ∙ of-drawer p (n + 1) i ds (omega (arith, is))
 
   -- as the code reads it
@@ -204,10 +196,10 @@ module _ {V : Type 0} where
   changed-own n k v [] rest lt = absurd (omega (arith, lt))
   changed-own n zero v (w ∷ vs) rest lt =
       ap (λ b. cond b (filed n v ∷ (map (filed n) vs ++ rest))
-      (filed n w ∷ with_changed n 0 v (map (filed n) vs ++ rest))) (same-number n)
+      (filed n w ∷ with_changed n 0 v (map (filed n) vs ++ rest))) (eqb-self n)
   changed-own n (suc k) v (w ∷ vs) rest lt =
       ap (λ b. filed n w ∷ cond b (with_changed n k v (map (filed n) vs ++ rest))
-      (with_changed n (suc k) v (map (filed n) vs ++ rest))) (same-number n)
+      (with_changed n (suc k) v (map (filed n) vs ++ rest))) (eqb-self n)
       ∙ ap (λ (ys : List (Filed V)). filed n w ∷ ys) (changed-own n k v vs rest (omega (arith, lt)))
 
   pub change-drawer : (p n i k : ℕ) (v : V) (ds : List (SeenDrawer V)) (d e : SeenDrawer V) → p ≡ n + i → i < length ds
@@ -222,7 +214,7 @@ module _ {V : Type 0} where
   change-drawer p n (suc i) k v (c ∷ ds) d e is lt within put =
       ap (λ (ys : List (Filed V)). map (filed n) c.values ++ ys)
       (change-drawer p (n + 1) i k v ds d e (omega (arith, is)) (omega (arith, lt)) within put)
-      ∙ sym (changed-past p k n v c.values (files_from (n + 1) ds) (other-above p n (omega (arith, is))))
+      ∙ sym (changed-past p k n v c.values (files_from (n + 1) ds) (eqb-above p n (omega (arith, is))))
 
   -- an empty one behind all
   pub more-drawers : (n : ℕ) (ds : List (SeenDrawer V)) (e : SeenDrawer V) → e.values ≡ []

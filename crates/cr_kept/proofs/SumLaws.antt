@@ -1,7 +1,7 @@
 -- SPDX-License-Identifier: Apache-2.0 OR MIT
 -- Sums that are filled up with zeros.
 use Rattle.std.proofs.Common.{ℕ, ◌≡◌, ◌+◌, ◌-◌, List, [], ◌∷◌, ◌++◌, length, get_or, set, replicate, append-nil, refl}
-use Rattle.std.proofs.Common.{ap, ◌∙◌, arith, zero, suc}
+use Rattle.std.proofs.Common.{ap, ◌∙◌, arith, zero, suc, zero-add}
 use Rattle.cr_base.specs.Papers.{with_more}
 
 -- of one value alone each index reads it, and so does what is behind the last
@@ -19,10 +19,7 @@ padded (x ∷ xs) k (suc i) = padded xs k i
 -- more in sums that are filled up to the index
 with_more-by : (i more : ℕ) (xs : List ℕ) (k : ℕ) → k ≡ i + 1 - length xs
     → set (xs ++ replicate k 0) i (get_or xs i 0 + more) ≡ with_more i more xs
-with_more-by zero more [] k is = ap (λ m. set (replicate k 0) 0 m) (none more) ∙ ap (λ k. set (replicate k 0) 0 more) is
-  where
-    none : (more : ℕ) → 0 + more ≡ more
-    none more = omega arith
+with_more-by zero more [] k is = ap (λ m. set (replicate k 0) 0 m) (zero-add more) ∙ ap (λ k. set (replicate k 0) 0 more) is
 with_more-by zero more (n ∷ xs) k is =
     let none : k ≡ 0 = omega (arith, is) in
     ap (λ k. (n + more) ∷ (xs ++ replicate k 0)) none ∙ ap (λ ys. (n + more) ∷ ys) (append-nil xs)

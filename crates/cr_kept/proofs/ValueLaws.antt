@@ -1,22 +1,16 @@
 -- SPDX-License-Identifier: Apache-2.0 OR MIT
 -- The flat list out of drawers, where one paper has other values than it had.
-use Rattle.std.proofs.Common.{ℕ, Bool, true, false, ◌≡◌, ◌≤◌, ◌<◌, ◌+◌, List, [], ◌∷◌, ◌++◌, length, set, sym, ap, ◌∙◌}
+use Rattle.std.proofs.Common.{ℕ, Bool, ◌≡◌, ◌<◌, ◌+◌, List, [], ◌∷◌, ◌++◌, length, set, sym, ap, ◌∙◌}
 use Rattle.std.proofs.Common.{arith, zero, suc}
 use Rattle.std.specs.Prelude.{nat_lt, map, filter}
-use Rattle.std.proofs.lemmas.Bool.Decides.{nat_tests}
 use Rattle.std.proofs.lemmas.List.{append_assoc}
 use Rattle.std.proofs.lemmas.List.Elements.{filter-append}
+use Rattle.std.proofs.lemmas.Bool.{lt-ltb, le-ltb}
 use Rattle.cr_base.specs.declared.filed.Filed.{Filed}
 use Rattle.cr_base.specs.Filed.{filed}
 use Rattle.cr_kept.specs.Seen.{SeenDrawer}
 use Rattle.cr_kept.specs.Drawers.{files_from, with_values}
 use Rattle.cr_kept.proofs.DrawerLaws.{block-all, block-none, all-from, none-from}
-
-less : (n m : ℕ) → n < m → nat_lt n m ≡ true
-less n m h = grind (arith, nat_tests, h)
-
-no_less : (n m : ℕ) → m ≤ n → nat_lt n m ≡ false
-no_less n m h = grind (arith, nat_tests, h)
 
 module _ {V : Type 0} (p : ℕ) (vs : List V) where
   abbrev is_low : Filed V → Bool
@@ -39,12 +33,12 @@ module _ {V : Type 0} (p : ℕ) (vs : List V) where
       ∙ ap (λ (m : ℕ). map (filed m) vs ++ rest) here
       ∙ sym
       (ap (λ (ys : List (Filed V)). ys ++ own ++ filter is_high (map (filed n) d.values ++ rest))
-      (none-from (λ m. nat_lt m p) n (d ∷ ds) (λ m le. no_less m p (omega (arith, here, le))))
+      (none-from (λ m. nat_lt m p) n (d ∷ ds) (λ m le. le-ltb m p (omega (arith, here, le))))
       ∙ ap (λ (ys : List (Filed V)). own ++ ys)
       (filter-append is_high (map (filed n) d.values) rest
       ∙ ap (λ (ys : List (Filed V)). ys ++ filter is_high rest)
-      (block-none (λ m. nat_lt p m) n d.values (no_less p n (omega (arith, here))))
-      ∙ all-from (λ m. nat_lt p m) (n + 1) ds (λ m le. less p m (omega (arith, here, le)))))
+      (block-none (λ m. nat_lt p m) n d.values (le-ltb p n (omega (arith, here))))
+      ∙ all-from (λ m. nat_lt p m) (n + 1) ds (λ m le. lt-ltb p m (omega (arith, here, le)))))
   with-drawer n (suc i) (d ∷ ds) e is lt put =
       let block : List (Filed V) = map (filed n) d.values in
       let rest : List (Filed V) = files_from (n + 1) ds in
@@ -53,9 +47,9 @@ module _ {V : Type 0} (p : ℕ) (vs : List V) where
       ∙ sym
       (ap (λ (ys : List (Filed V)). ys ++ own ++ filter is_high (block ++ rest))
       (filter-append is_low block rest ∙ ap (λ (ys : List (Filed V)). ys ++ filter is_low rest)
-      (block-all (λ m. nat_lt m p) n d.values (less n p below)))
+      (block-all (λ m. nat_lt m p) n d.values (lt-ltb n p below)))
       ∙ ap (λ (ys : List (Filed V)). block ++ filter is_low rest ++ own ++ ys)
       (filter-append is_high block rest ∙ ap (λ (ys : List (Filed V)). ys ++ filter is_high rest)
-      (block-none (λ m. nat_lt p m) n d.values (no_less p n (omega (arith, below)))))
+      (block-none (λ m. nat_lt p m) n d.values (le-ltb p n (omega (arith, below)))))
       ∙ ap (λ (ys : List (Filed V)). ys ++ filter is_high rest) (append_assoc block (filter is_low rest) own)
       ∙ append_assoc block (filter is_low rest ++ own) (filter is_high rest))

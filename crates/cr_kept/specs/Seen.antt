@@ -9,7 +9,7 @@ pub record SeenDrawer (V : Type 0) : Type 0 where
   pub room : ℕ
 
 -- the values of all papers, paper by paper, and by the paper's number for how many more of its values there is room
-pub record SeenFiles (V : Type 0) : Type 0 where
+pub record SeenCabinet (V : Type 0) : Type 0 where
   pub files : List (Filed V)
   pub rooms : List ℕ
 

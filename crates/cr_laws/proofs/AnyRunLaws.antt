@@ -6,7 +6,7 @@ use Rattle.std.proofs.Common.{subst, ◌∙◌, cond, Option, Some, None, append
 use Rattle.std.specs.Prelude.{take, drop, ◌==◌}
 use Rattle.std.specs.List.{AllByRecursion, Contains, list_any}
 use Rattle.std.proofs.Math.Seq.{take-append_seam, take-add, take-length}
-use Rattle.std.proofs.lemmas.Bool.{true≢false, or_parts}
+use Rattle.std.proofs.lemmas.Bool.{true≢false, or_parts, or_left, or_right}
 use Rattle.std.proofs.lemmas.List.{take-append-drop, append_cancel_left}
 use Rattle.std.proofs.lemmas.List.Elements.{All-weaker, All-contains_itself}
 use Rattle.cr_base.specs.declared.entry.Entry.{Entry}
@@ -24,7 +24,7 @@ use Rattle.cr_policy.proofs.LegalLaws.{Legal-whole}
 use Rattle.cr_undeduced.specs.Undeducible.{Look, seen_at}
 use Rattle.cr_bodies.specs.declared.credentials.Credentials.{Credentials}
 use Rattle.cr_wire.specs.declared.what.Wish.{Wish}
-use Rattle.cr_wire.specs.Caller.{caller, reads_credentials, user_told}
+use Rattle.cr_wire.specs.Caller.{caller, wants_login, user_told}
 use Rattle.cr_session.specs.Told.{drawn, and_drawn, after_wish}
 use Rattle.cr_session.specs.Turning.{IsBoundedWish}
 use Rattle.cr_session.specs.TwoRuns.{WishInTurn, is_same}
@@ -129,18 +129,10 @@ module _ (group : List (Option ℕ)) where
       (told-same (caller_told c.name c.digest) (caller-alone c.name c.digest) H E stand)
 
   pub caller-same : (H E : History) → AllStandFor group H E → (w : Wish) → caller E w ≡ caller H w
-  caller-same H E stand w = ap (λ (u : Option ℕ). cond (reads_credentials w.what) u None)
+  caller-same H E stand w = ap (λ (u : Option ℕ). cond (wants_login w.what) u None)
       (user_told-same H E stand w.credentials)
 
   -- ---- what is the group's
-
-  or-left : (a b : Bool) → a ≡ true → (a || b) ≡ true
-  or-left true b is = refl
-  or-left false b is = absurd (true≢false (sym is))
-
-  or-right : (a b : Bool) → b ≡ true → (a || b) ≡ true
-  or-right true b is = refl
-  or-right false b is = is
 
   -- what one of them made is the same in both
   made-same : (user : ℕ) → list_any (λ v. is_number v user) group ≡ true → (g E : History)
@@ -149,8 +141,8 @@ module _ (group : List (Option ℕ)) where
   made-same user among [] (e ∷ E) made stand = absurd stand
   made-same user among (e ∷ g) [] made stand = absurd stand
   made-same user among (e ∷ g) (other ∷ E) made stand =
-      λ i. sym (stand.0.same (or-left (is_kept group e) (is_kept group other)
-      (or-left (is_made_by group e) (registers e.entry)
+      λ i. sym (stand.0.same (or_left (is_kept group e) (is_kept group other)
+      (or_left (is_made_by group e) (registers e.entry)
       (ap (λ (n : ℕ). list_any (λ v. is_number v n) group) made.0 ∙ among)))) i
       ∷ made-same user among g E made.1 stand.1 i
 
@@ -160,8 +152,8 @@ module _ (group : List (Option ℕ)) where
     not-both : (e other : Stamped) → StandsFor group e other → (g : History) (v : ℕ) → IsRegistration H (e ∷ g)
         → IsRegistered E v → other.stamp.maker ≡ v → ⊥
     not-both e other stands g v new entered gave =
-        let same : e ≡ other = stands.same (or-left (is_kept group e) (is_kept group other)
-        (or-right (is_made_by group e) (registers e.entry) (registration-registers H e g new))) in
+        let same : e ≡ other = stands.same (or_left (is_kept group e) (is_kept group other)
+        (or_right (is_made_by group e) (registers e.entry) (registration-registers H e g new))) in
         not-next H legal v (registered-back H E stand v entered)
         (sym gave ∙ ap (λ (x : Stamped). x.stamp.maker) (sym same) ∙ registration-maker H e g new)
 
@@ -185,8 +177,8 @@ module _ (group : List (Option ℕ)) where
         absurd (not-both e other stands.0 g v new entered gave.0)
     new-same (e ∷ g) (other ∷ g') n n' m one' stands new (by_nobody is also) =
         sym (registration-same H E e other g g' new also nothing-same
-        (stands.0.same (or-left (is_kept group e) (is_kept group other)
-        (or-right (is_made_by group e) (registers e.entry) (registration-registers H e g new)))))
+        (stands.0.same (or_left (is_kept group e) (is_kept group other)
+        (or_right (is_made_by group e) (registers e.entry) (registration-registers H e g new)))))
 
     others-first : (e other : Stamped) → StandsFor group e other → (c m : Option ℕ) (g g' : History)
         → GivenBy H c (e ∷ g) → GivenBy E m (other ∷ g') → list_any (λ v. is_same v c) group ≡ false
@@ -199,8 +191,8 @@ module _ (group : List (Option ℕ)) where
             ap (λ (o : Option ℕ). list_any (λ u. is_same u o) group) is ∙ one-of group v
             ∙ ap (λ (n : ℕ). list_any (λ u. is_number u n) group) (sym gave.0) ∙ not_made
         by true theirs =
-            let same : e ≡ other = stands.same (or-right (is_kept group e) (is_kept group other)
-            (or-left (is_made_by group other) (registers other.entry) theirs)) in
+            let same : e ≡ other = stands.same (or_right (is_kept group e) (is_kept group other)
+            (or_left (is_made_by group other) (registers other.entry) theirs)) in
             absurd (true≢false (sym theirs ∙ ap (is_made_by group) (sym same)
             ∙ ap (λ (n : ℕ). list_any (λ u. is_number u n) group) made.0 ∙ sym (one-of group user)
             ∙ ap (λ (o : Option ℕ). list_any (λ u. is_same u o) group) (sym at) ∙ others))
@@ -213,8 +205,8 @@ module _ (group : List (Option ℕ)) where
             ∙ ap (λ (n : ℕ). list_any (λ u. is_number u n) group) (sym gave.0) ∙ not_made
         by true theirs = absurd (not-both e other stands g v new entered gave.0)
     others-first e other stands c m g g' (by_user user at registered made) (by_nobody is new) others =
-        let same : e ≡ other = stands.same (or-right (is_kept group e) (is_kept group other)
-        (or-right (is_made_by group other) (registers other.entry) (registration-registers E other g' new))) in
+        let same : e ≡ other = stands.same (or_right (is_kept group e) (is_kept group other)
+        (or_right (is_made_by group other) (registers other.entry) (registration-registers E other g' new))) in
         absurd (not-next E legal' user (registered-same H E stand user registered)
         (sym made.0 ∙ ap (λ (x : Stamped). x.stamp.maker) same ∙ registration-maker E other g' new))
     others-first e other stands c m g g' (by_nobody at new) (by_nobody is also) others =

@@ -33,7 +33,7 @@ use Rattle.cr_wire.specs.declared.what.What.{What}
 use Rattle.cr_wire.specs.declared.what.What.TheVariants as whats
 use Rattle.cr_wire.specs.declared.what.Wish.{Wish}
 use Rattle.cr_wire.specs.Bounds.{IsBoundedWhat, IsKeyFor}
-use Rattle.cr_wire.specs.Caller.{caller, reads_credentials, user_told}
+use Rattle.cr_wire.specs.Caller.{caller, wants_login, user_told}
 use Rattle.cr_session.specs.Told.{drawn}
 use Rattle.cr_session.specs.Turning.{IsBoundedWish}
 use Rattle.cr_session.proofs.Accepting.{Accepts, by_command, by_bulk}
@@ -68,7 +68,7 @@ user_told-kept (Some c) xs H keeps = ap (λ (users : List ℕ). last users) (cal
 
 -- who wishes something that reads the credentials as that does
 pub caller-kept : (xs : ℕ → Payload) (H : History) (w : Wish) (what : What) → KeepDigests xs H
-    → reads_credentials what ≡ reads_credentials w.what
+    → wants_login what ≡ wants_login w.what
     → caller (refilled xs H) (record w { what = what }) ≡ caller H w
 caller-kept xs H w what keeps same =
     λ i. cond (same i) (user_told-kept w.credentials xs H keeps i) None
@@ -83,7 +83,7 @@ filled_what ys what = what
 abbrev pub filled_wish : (ℕ → Payload) → Wish → Wish
 filled_wish ys w = record w { what = filled_what ys w.what }
 
-reads-filled : (ys : ℕ → Payload) (what : What) → reads_credentials (filled_what ys what) ≡ reads_credentials what
+reads-filled : (ys : ℕ → Payload) (what : What) → wants_login (filled_what ys what) ≡ wants_login what
 reads-filled ys (whats.Command key command) = same_login (ys 0) command
 reads-filled ys what = refl
 

@@ -2,7 +2,7 @@
 -- Whoever has registered can call: by her name and the digest of her secret. And nobody has the number that is given
 -- next.
 use Rattle.std.proofs.Common.{ℕ, Bool, true, false, cond, ◌≡◌, ◌+◌, ◌||◌, suc, List, [], ◌∷◌, length, eqb, refl}
-use Rattle.std.proofs.Common.{sym, ap, ◌∙◌, arith, Option, Some, None}
+use Rattle.std.proofs.Common.{sym, ap, ◌∙◌, arith, Option, Some, None, add-one}
 use Rattle.std.specs.Prelude.{map, find}
 use Rattle.std.specs.List.{list_any}
 use Rattle.std.specs.Option.{option_map, option_map_or, option_and_then}
@@ -102,10 +102,7 @@ module _ (H : History) (legal : Legal H) where
     where
       number : v ≡ suc (length accounts)
       number = is ∙ ap (λ n. n + 1) (ap length (Legal-told H legal).accounts ∙ length-lines_of accounts)
-          ∙ more (length accounts)
-        where
-          more : (n : ℕ) → n + 1 ≡ suc n
-          more n = omega arith
+          ∙ add-one (length accounts)
 
       past : account_at accounts (suc (length accounts)) ≡ None
       past = slice_get_past accounts (length accounts) (omega arith)

@@ -38,7 +38,7 @@ use Rattle.cr_wire.specs.declared.what.What.{What}
 use Rattle.cr_wire.specs.declared.what.What.TheVariants as whats
 use Rattle.cr_wire.specs.declared.what.Wish.{Wish}
 use Rattle.cr_wire.specs.Bounds.{IsKeyFor}
-use Rattle.cr_wire.specs.Caller.{caller, reads_credentials, user_told}
+use Rattle.cr_wire.specs.Caller.{caller, wants_login, user_told}
 use Rattle.cr_session.specs.Told.{drawn}
 use Rattle.cr_session.specs.Turning.{IsBoundedWish}
 use Rattle.cr_session.proofs.Accepting.{Accepts, by_command, by_bulk}
@@ -204,7 +204,7 @@ module _ (H : History) (legal : Legal H) where
   nobody-calls true = refl
   nobody-calls false = refl
 
-  user-calls : (v : ℕ) (by : CallsBy H v) (at : ℕ) (what : What) → reads_credentials what ≡ true
+  user-calls : (v : ℕ) (by : CallsBy H v) (at : ℕ) (what : What) → wants_login what ≡ true
       → caller H (wish_by (credentials_of v by) at what) ≡ Some v
   user-calls v by at what reads =
       ap (λ (b : Bool). cond b (user_told (credentials_of v by) H) None) reads ∙ by.is
@@ -222,7 +222,7 @@ module _ (H : History) (legal : Legal H) where
   call-wished None at key command d allowed accepted =
       let what : What = whats.Command key command in
       let wish : Wish = wish_by None at what in
-      let whose : caller H wish ≡ None = nobody-calls (reads_credentials what) in
+      let whose : caller H wish ≡ None = nobody-calls (wants_login what) in
       record {
         wish = wish;
         within = record {

@@ -4,7 +4,7 @@ use Rattle.std.proofs.Common.{ℕ, Bool, true, false, cond, ◌≡◌, ◌⊎◌
 use Rattle.std.proofs.Common.{None, eqb, inl, inr}
 use Rattle.std.specs.Prelude.{not}
 use Rattle.std.specs.List.{list_any}
-use Rattle.std.proofs.lemmas.Bool.{true≢false, eqb-true, eq-eqb}
+use Rattle.std.proofs.lemmas.Bool.{true≢false, eqb-true, eq-eqb, not-false}
 use Rattle.cr_base.specs.declared.entry.Entry.{Entry}
 use Rattle.cr_base.specs.declared.entry.Entry.TheVariants as entries
 use Rattle.cr_base.specs.declared.entry.Stamp.{Stamp}
@@ -28,11 +28,7 @@ module _ (t : Twins) where
 
   -- it names the same, where it doesn't rename
   named-same : (paper user : ℕ) → not (eqb (placed t paper user) user) ≡ false → placed t paper user ≡ user
-  named-same paper user is = eqb-true (placed t paper user) user (by (eqb (placed t paper user) user) is)
-    where
-      by : (b : Bool) → not b ≡ false → b ≡ true
-      by true is = refl
-      by false is = absurd (true≢false is)
+  named-same paper user is = eqb-true (placed t paper user) user (not-false (eqb (placed t paper user) user) is)
 
   entry-same : (e : Entry) → renames t e ≡ false → twin_entry t e ≡ e
   entry-same (entries.Conflict paper user on) is =

@@ -4,7 +4,7 @@ use Rattle.std.proofs.Common.{◌≡◌, ℕ, Bool, true, false, not, List, [], 
 use Rattle.std.proofs.Common.{Some, append_assoc, append-nil, arith, ◌||◌, ◌&&◌}
 use Rattle.std.specs.Prelude.{codes}
 use Rattle.std.specs.List.{list_all}
-use Rattle.std.proofs.lemmas.Bool.{and_parts, true≢false}
+use Rattle.std.proofs.lemmas.Bool.{and_parts, true≢false, or_parts}
 use Rattle.cr_base.specs.declared.command.Command.TheVariants.{SetPhase, Assign, Review}
 use Rattle.cr_base.specs.declared.entry.Entry.TheVariants.{PhaseSet}
 use Rattle.cr_base.specs.declared.entry.Stamped.{Stamped}
@@ -36,10 +36,6 @@ stays t e = not (moves t e || renames t e.entry)
 stay : {A : Type 0} (b : Bool) → not b ≡ true → b ≡ true → A
 stay true h is = absurd (true≢false (sym h))
 stay false h is = absurd (true≢false (sym is))
-
-either : (b c : Bool) → (b || c) ≡ true → b ≡ false → c ≡ true
-either true c h is = absurd (true≢false is)
-either false c h is = h
 
 implied : (b c : Bool) → (not b || not c) ≡ true → b ≡ true → c ≡ false
 implied true true h is = absurd (true≢false (sym h))
@@ -96,15 +92,11 @@ module _ (t : Twins) where
     none_hers [] = true
     none_hers (e ∷ later) = (not (renames t e.entry) || not (hers e)) && none_hers later
 
-    neither : (b c : Bool) → (b || c) ≡ false → (b ≡ false) × (c ≡ false)
-    neither true c h = absurd (true≢false h)
-    neither false c h = (refl, h)
-
     none-so : (later : History) → none_hers later ≡ true → NoneIsHers t u H later
     none-so [] h = tt
     none-so (e ∷ later) h =
         let both = and_parts (not (renames t e.entry) || not (hers e)) (none_hers later) h in (
-          λ named. neither (is_number u e.stamp.maker)
+          λ named. or_parts (is_number u e.stamp.maker)
               (is_author u t.paper H && is_author (Some e.stamp.maker) t.paper H)
               (implied (renames t e.entry) (hers e) both.0 named),
           none-so later both.1,

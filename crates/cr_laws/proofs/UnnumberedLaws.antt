@@ -6,6 +6,7 @@ use Rattle.std.proofs.Common.{subst, ◌∙◌, eqb, Option, Some, None, Result,
 use Rattle.std.specs.List.{AllByRecursion, list_any}
 use Rattle.std.proofs.lemmas.Bool.{true≢false, eqb-true, eq-eqb}
 use Rattle.std.proofs.lemmas.List.{map-append}
+use Rattle.std.proofs.Math.Bool.{and-false}
 use Rattle.cr_base.specs.declared.bulk.Broken.{Broken}
 use Rattle.cr_base.specs.declared.command.Call.{Call}
 use Rattle.cr_base.specs.declared.command.Command.{Command}
@@ -230,10 +231,6 @@ module _ (group : List (Option ℕ)) where
     module _ (user number : ℕ) where
       abbrev passes : Stamped → Bool
       passes e = eqb e.stamp.maker user && has_number number e.stamp.key
-
-      and-false : (b : Bool) → (b && false) ≡ false
-      and-false true = refl
-      and-false false = refl
 
       passes-plain : (e : Stamped) → passes e ≡ false → passes (plain e) ≡ false
       passes-plain e is = by (is_made_by group e)

@@ -29,7 +29,7 @@ use Rattle.cr_wire.specs.declared.what.What.{What}
 use Rattle.cr_wire.specs.declared.what.What.TheVariants as whats
 use Rattle.cr_wire.specs.declared.what.Wish.{Wish}
 use Rattle.cr_wire.specs.Bounds.{IsBoundedWhat, IsKeyFor}
-use Rattle.cr_wire.specs.Caller.{caller, reads_credentials, user_told}
+use Rattle.cr_wire.specs.Caller.{caller, wants_login, user_told}
 use Rattle.cr_session.specs.Retries.{AreBounded}
 use Rattle.cr_session.specs.Told.{drawn, and_drawn}
 use Rattle.cr_session.specs.Turning.{IsBoundedWish}
@@ -56,7 +56,7 @@ unnumbered_what what = what
 abbrev unnumbered_wish : Wish → Wish
 unnumbered_wish w = record w { what = unnumbered_what w.what }
 
-reads-same : (what : What) → reads_credentials (unnumbered_what what) ≡ reads_credentials what
+reads-same : (what : What) → wants_login (unnumbered_what what) ≡ wants_login what
 reads-same (whats.Command key command) = refl
 reads-same what = refl
 
@@ -71,7 +71,7 @@ module _ (group : List (Option ℕ)) where
   user_told-plain (Some c) H =
       ap (λ (users : List ℕ). last users) (told-plain group (caller_told c.name c.digest) H)
 
-  caller-plain : (H : History) (w : Wish) (what : What) → reads_credentials what ≡ reads_credentials w.what
+  caller-plain : (H : History) (w : Wish) (what : What) → wants_login what ≡ wants_login w.what
       → caller (without_numbers group H) (record w { what = what }) ≡ caller H w
   caller-plain H w what same = λ i. cond (same i) (user_told-plain w.credentials H i) None
 

@@ -21,8 +21,8 @@ abbrev pub form_of : Stamp → Bool → ℕ → ℕ → ℕ → Form → Stamped
 form_of stamp more paper ordinal version form = stamped stamp more (Reviewed paper ordinal version form)
 
 -- Two histories read the same to a user. Either the first is before the notification, and they differ in what is in
--- forms that others wrote of the user's papers, none of them the last of its label before the response; or the second is
--- the first without such a form that was written after the response was opened; or they differ only in what the user
+-- forms that others wrote of the user's papers, none of them the last of its label before the response; or the second
+-- is the first without such a form that was written after the response was opened; or they differ only in what the user
 -- isn't shown; or this holds with the two exchanged, or with a third history between them.
 pub data ReadsSame (u : Option ℕ) : History → History → Type 0 where
   unheard : (H H' : History) → IsFalse (is_past_discussion (phase_of H))

@@ -1,6 +1,6 @@
 -- SPDX-License-Identifier: Apache-2.0 OR MIT
--- TwinsBytes: for all that a group of users are answered who aren't shown which of two users has which place at a paper,
--- the two may have had each other's, if they have one role and neither wrote the paper.
+-- TwinsBytes: for all that a group of users are answered who aren't shown which of two users has which place at a
+-- paper, the two may have had each other's, if they have one role and neither wrote the paper.
 use Rattle.std.specs.Prelude.{ℕ, List, [], ◌∷◌, Option, take, IsTrue, IsFalse}
 use Rattle.std.specs.List.{list_any, Contains}
 use Rattle.cr_base.specs.History.{History}

@@ -1,6 +1,6 @@
 -- SPDX-License-Identifier: Apache-2.0 OR MIT
--- TwinsNeeded: the condition that the user who looks is neither of the twins is needed. In the small conference one of two
--- members reviews a paper, and all other conditions hold of the other, who sees that they aren't the reviewer.
+-- TwinsNeeded: the condition that the user who looks is neither of the twins is needed. In the small conference one of
+-- two members reviews a paper, and all other conditions hold of the other, who sees that they aren't the reviewer.
 use Rattle.std.specs.Prelude.{ℕ, Bool, ◌≡◌, ◌&&◌, List, [], ◌∷◌, ◌++◌, Option, Some, None, length, IsTrue, IsFalse}
 use Rattle.std.specs.List.{list_any}
 use Rattle.cr_base.specs.declared.entry.Entry.TheVariants.{PhaseSet}

@@ -10,6 +10,7 @@ use Rattle.std.proofs.lemmas.List.Elements.{filter-append}
 use Rattle.std.proofs.lemmas.Option.{slice_get_read}
 use Rattle.std.specs.declared.hash.FoldHasher.{FoldHasher}
 use Rattle.std.specs.declared.hash.BuildHasherDefault.{BuildHasherDefault}
+use Rattle.std.proofs.Math.Bool.{and-false}
 use Rattle.indexmap.specs.IndexMap.{IndexMap, get}
 use Rattle.cr_base.specs.declared.entry.Stamp.{Stamp}
 use Rattle.cr_base.specs.declared.entry.Stamped.{Stamped}
@@ -209,9 +210,5 @@ indexed-same H items (e ∷ es) index was follows none is = λ n.
   where
     under : (n : GivenNumber) (key : Option RetryKey) → option_map (number_by e.stamp.maker) key ≡ None
         → (eqb e.stamp.maker n.user && has_number n.number key) ≡ false
-    under n None none = never (eqb e.stamp.maker n.user)
-      where
-        never : (b : Bool) → (b && false) ≡ false
-        never true = refl
-        never false = refl
+    under n None none = and-false (eqb e.stamp.maker n.user)
     under n (Some key) none = cc (none)

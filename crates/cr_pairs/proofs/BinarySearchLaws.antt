@@ -8,6 +8,7 @@ use Rattle.std.specs.List.{list_all, insert, remove}
 use Rattle.std.specs.Option.{option_map}
 use Rattle.std.proofs.lemmas.Bool.{and_parts, or_parts}
 use Rattle.std.proofs.lemmas.Bool.Decides.{nat_tests}
+use Rattle.std.proofs.Math.Bool.{or-true}
 use Rattle.cr_base.specs.declared.pairs.Order.{Order}
 use Rattle.cr_base.specs.declared.pairs.Order.TheVariants.{ByPaper, ByUser}
 use Rattle.cr_base.specs.declared.pairs.Pair.{Pair}
@@ -16,10 +17,8 @@ use Rattle.cr_base.specs.Pairs.{same_pair, comes_before, is_tied, stands, IsAsce
 use Rattle.cr_base.specs.Pairs.{tie_value}
 use Rattle.cr_base.proofs.PairLaws.{same_pair-refl, same_pair-is, comes_before-not_same, IsAscending-with_tie}
 use Rattle.cr_base.proofs.PairLaws.{IsAscending-without_pair}
+use Rattle.cr_base.proofs.Small.{or_second}
 use Rattle.cr_pairs.specs.BinarySearch.{IsAt, IsGapFor}
-
-either : (a b : Bool) → (a || b) ≡ true → a ≡ false → b ≡ true
-either a b h first = ap (λ x. x || b) (sym first) ∙ h
 
 not_before : (order : Order) (q p : Pair) → comes_before order p q ≡ true → comes_before order q p ≡ false
 not_before ByPaper q p h = grind (arith, nat_tests)
@@ -48,11 +47,7 @@ module _ {V : Type 0} where
   at-has_pair q (t ∷ ts) zero at =
       ap (λ (x : Pair). same_pair q x || has_pair q ts) (at.is t) ∙ ap (λ b. b || has_pair q ts) (same_pair-refl q)
   at-has_pair q (t ∷ ts) (suc index) at =
-      ap (λ b. is_tied q t || b) (at-has_pair q ts index (at_tail q t ts index at)) ∙ always (is_tied q t)
-    where
-      always : (a : Bool) → (a || true) ≡ true
-      always true = refl
-      always false = refl
+      ap (λ b. is_tied q t || b) (at-has_pair q ts index (at_tail q t ts index at)) ∙ or-true (is_tied q t)
 
   -- what comes before each pair comes before one that is there
   before_there : (order : Order) (p q : Pair) (ts : List (Tie V)) → list_all (stands (comes_before order) p) ts ≡ true
@@ -65,7 +60,7 @@ module _ {V : Type 0} where
       by : (same : Bool) → is_tied q t ≡ same → comes_before order p t.pair ≡ true
           → (has_pair q ts ≡ true → comes_before order p q ≡ true) → comes_before order p q ≡ true
       by true is here rest = subst (λ (x : Pair). comes_before order p x ≡ true) (sym (same_pair-is q t.pair is)) here
-      by false is here rest = rest (either (is_tied q t) (has_pair q ts) there is)
+      by false is here rest = rest (or_second (is_tied q t) (has_pair q ts) there is)
 
   -- the pair of the first tie isn't the one that stands behind it
   first_other : (order : Order) (q : Pair) (t : Tie V) (ts : List (Tie V)) (index : ℕ) → IsAscending order (t ∷ ts)

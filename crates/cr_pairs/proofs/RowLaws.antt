@@ -6,10 +6,11 @@ use Rattle.std.specs.Prelude.{nat_lt, map, find}
 use Rattle.std.specs.List.{list_all}
 use Rattle.std.specs.Option.{option_map}
 use Rattle.std.specs.Cmp.Derive.{both_true}
-use Rattle.std.proofs.lemmas.Bool.{and_parts, eqb-true}
+use Rattle.std.proofs.lemmas.Bool.{and_parts, eqb-true, ltb-true, lt-ltb}
 use Rattle.std.proofs.lemmas.Bool.Decides.{nat_tests}
 use Rattle.std.proofs.lemmas.List.{append-nil, get_or-map, get_or_past, length-map}
 use Rattle.std.proofs.lemmas.List.Elements.{filter-append}
+use Rattle.std.proofs.Common.{add-zero}
 use Rattle.cr_base.specs.declared.pairs.Order.{Order}
 use Rattle.cr_base.specs.declared.pairs.Order.TheVariants.{ByPaper, ByUser}
 use Rattle.cr_base.specs.declared.pairs.Pair.{Pair}
@@ -18,19 +19,11 @@ use Rattle.cr_base.specs.Pairs.{same_pair, major, comes_before, is_tied, stands,
 use Rattle.cr_base.specs.Pairs.{has_pair, tie_value, ties_of}
 use Rattle.cr_base.proofs.PairLaws.{list_all-with_tie, IsAscending-with_tie, IsAscending-without_pair}
 use Rattle.cr_base.proofs.SortedLists.{list_all-append, list_all-filter, list_all-weaker}
+use Rattle.cr_base.proofs.Small.{eqb-self, eqb-below, eqb-above}
 use Rattle.cr_pairs.specs.Seen.{SeenPairs}
 use Rattle.cr_pairs.specs.Rows.{ties_in, IsRow, AreRows}
 
 -- ---- pairs of which other numbers lead
-
-same_number : (n : ℕ) → eqb n n ≡ true
-same_number n = grind (arith, nat_tests)
-
-differ : (m n : ℕ) → m < n → eqb m n ≡ false
-differ m n h = grind (arith, nat_tests, h)
-
-differ-above : (m n : ℕ) → n < m → eqb m n ≡ false
-differ-above m n h = grind (arith, nat_tests, h)
 
 apart : (order : Order) (p q : Pair) → eqb (major order p) (major order q) ≡ false → same_pair p q ≡ false
 apart ByPaper p q h = grind (arith, nat_tests, h)
@@ -47,12 +40,6 @@ later ByUser p q h = grind (arith, nat_tests, h)
 is-number : (n m : ℕ) → eqb n m ≡ true → m ≡ n
 is-number n m h = sym (eqb-true n m h)
 
-is-above : (n m : ℕ) → nat_lt n m ≡ true → n < m
-is-above n m h = grind (arith, nat_tests, h)
-
-above-is : (n m : ℕ) → n < m → nat_lt n m ≡ true
-above-is n m h = grind (arith, nat_tests, h)
-
 module _ {V : Type 0} (order : Order) where
   -- all have this number; all have higher ones
   abbrev AllOf : ℕ → List (Tie V) → Type 0
@@ -67,7 +54,7 @@ module _ {V : Type 0} (order : Order) where
       let parts =
       and_parts (eqb n (major order t.pair)) (list_all (λ (u : Tie V). eqb n (major order u.pair)) ts) all in
       let here = is-number n (major order t.pair) parts.0 in
-      both_true (above-is m (major order t.pair) (omega (arith, here, lt))) (above-block m n ts rest lt parts.1 more)
+      both_true (lt-ltb m (major order t.pair) (omega (arith, here, lt))) (above-block m n ts rest lt parts.1 more)
 
   rows-above : (m n : ℕ) (rs : List (SeenPairs V)) → m < n → AreRows order n rs → AllAbove m (ties_in rs)
   rows-above m n [] lt h = refl
@@ -80,7 +67,7 @@ module _ {V : Type 0} (order : Order) where
       → list_all (stands (comes_before order) q) rest ≡ true
   before-rest n q rest is above =
       list_all-weaker (λ (u : Tie V). nat_lt n (major order u.pair)) (stands (comes_before order) q)
-      (λ u h. let lt = is-above n (major order u.pair) h in sooner order q u.pair (omega (arith, lt, is))) rest above
+      (λ u h. let lt = ltb-true n (major order u.pair) h in sooner order q u.pair (omega (arith, lt, is))) rest above
 
   ascending-block : (n : ℕ) (ts rest : List (Tie V)) → IsAscending order ts → IsAscending order rest → AllOf n ts
       → AllAbove n rest → IsAscending order (ts ++ rest)
@@ -111,7 +98,7 @@ module _ {V : Type 0} (order : Order) where
       let more : List (Tie V) = with_tie order s (ts ++ rest) in
       ap
       (λ b. cond b (s ∷ (ts ++ rest)) (cond (stands (comes_before order) s.pair t) (s ∷ t ∷ (ts ++ rest)) (t ∷ more)))
-      (apart order s.pair t.pair (differ-above (major order s.pair) (major order t.pair) (omega (arith, here, lt))))
+      (apart order s.pair t.pair (eqb-above (major order s.pair) (major order t.pair) (omega (arith, here, lt))))
       ∙ ap (λ b. cond b (s ∷ t ∷ (ts ++ rest)) (t ∷ more)) (later order s.pair t.pair (omega (arith, here, lt)))
       ∙ ap (λ (us : List (Tie V)). t ∷ us) (past s n ts rest lt parts.1)
 
@@ -120,9 +107,9 @@ module _ {V : Type 0} (order : Order) where
   ahead s (t ∷ ts) all =
       let parts = and_parts (nat_lt (major order s.pair) (major order t.pair))
       (list_all (λ (u : Tie V). nat_lt (major order s.pair) (major order u.pair)) ts) all in
-      let lt = is-above (major order s.pair) (major order t.pair) parts.0 in
+      let lt = ltb-true (major order s.pair) (major order t.pair) parts.0 in
       ap (λ b. cond b (s ∷ ts) (cond (stands (comes_before order) s.pair t) (s ∷ t ∷ ts) (t ∷ with_tie order s ts)))
-      (apart order s.pair t.pair (differ (major order s.pair) (major order t.pair) lt))
+      (apart order s.pair t.pair (eqb-below (major order s.pair) (major order t.pair) lt))
       ∙ ap (λ b. cond b (s ∷ t ∷ ts) (t ∷ with_tie order s ts)) (sooner order s.pair t.pair lt)
 
   own : (s : Tie V) (ts rest : List (Tie V)) → AllAbove (major order s.pair) rest
@@ -174,8 +161,8 @@ module _ {V : Type 0} (order : Order) where
       ∙ ap (λ (us : List (Tie V)). r.ties ++ us) (rows-untouched q (n + 1) rs (on away) rows.1)
     where
       other : (major order q < n) ⊎ (n + length (r ∷ rs) ≤ major order q) → eqb (major order q) n ≡ false
-      other (inl h) = differ (major order q) n h
-      other (inr h) = differ-above (major order q) n (omega (arith, h))
+      other (inl h) = eqb-below (major order q) n h
+      other (inr h) = eqb-above (major order q) n (omega (arith, h))
 
       on : (major order q < n) ⊎ (n + length (r ∷ rs) ≤ major order q) → (major order q < n + 1)
           ⊎ (n + 1 + length rs ≤ major order q)
@@ -194,7 +181,7 @@ module _ {V : Type 0} (order : Order) where
   row-without q n (suc i) (r ∷ rs) d e is rows put =
       ap (λ (us : List (Tie V)). r.ties ++ us) (row-without q (n + 1) i rs d e (omega (arith, is)) rows.1 put)
       ∙ ap (λ (us : List (Tie V)). us ++ without_pair q (ties_in rs))
-      (sym (untouched q n r.ties (differ-above (major order q) n (omega (arith, is))) rows.0.1))
+      (sym (untouched q n r.ties (eqb-above (major order q) n (omega (arith, is))) rows.0.1))
       ∙ sym (filter-append (λ (t : Tie V). not (is_tied q t)) r.ties (ties_in rs))
 
   -- ---- what is read of a number
@@ -220,7 +207,7 @@ module _ {V : Type 0} (order : Order) where
   none-behind m n [] lt rows = refl
   none-behind m n (r ∷ rs) lt rows =
       filter-append (λ (t : Tie V). eqb m (major order t.pair)) r.ties (ties_in rs)
-      ∙ ap (λ (us : List (Tie V)). us ++ ties_of order m (ties_in rs)) (none-own m n r.ties (differ m n lt) rows.0.1)
+      ∙ ap (λ (us : List (Tie V)). us ++ ties_of order m (ties_in rs)) (none-own m n r.ties (eqb-below m n lt) rows.0.1)
       ∙ none-behind m (n + 1) rs (omega (arith, lt)) rows.1
 
   -- those of the row at the number's place; none, where there is no such row
@@ -237,7 +224,7 @@ module _ {V : Type 0} (order : Order) where
   of-row m n (suc i) (r ∷ rs) is rows =
       filter-append (λ (t : Tie V). eqb m (major order t.pair)) r.ties (ties_in rs)
       ∙ ap (λ (us : List (Tie V)). us ++ ties_of order m (ties_in rs))
-      (none-own m n r.ties (differ-above m n (omega (arith, is))) rows.0.1)
+      (none-own m n r.ties (eqb-above m n (omega (arith, is))) rows.0.1)
       ∙ of-row m (n + 1) i rs (omega (arith, is)) rows.1
 
   -- whether a pair is there, and what is kept of it, is told by those of its number
@@ -271,10 +258,7 @@ module _ {V : Type 0} (order : Order) where
   pub rows-set : (n i : ℕ) (rs : List (SeenPairs V)) (e : SeenPairs V) → IsRow order (n + i) e → AreRows order n rs
       → AreRows order n (set rs i e)
   rows-set n i [] e row rows = rows
-  rows-set n zero (r ∷ rs) e row rows = (subst (λ (m : ℕ). IsRow order m e) (plain n) row, rows.1)
-    where
-      plain : (m : ℕ) → m + 0 ≡ m
-      plain m = omega arith
+  rows-set n zero (r ∷ rs) e row rows = (subst (λ (m : ℕ). IsRow order m e) (add-zero n) row, rows.1)
   rows-set n (suc i) (r ∷ rs) e row rows =
       (rows.0, rows-set (n + 1) i rs e (subst (λ (m : ℕ). IsRow order m e) (on n i) row) rows.1)
     where
@@ -346,7 +330,7 @@ module _ {V : Type 0} where
     inserted s at put =
         let here : 0 + i ≡ major order s.pair = omega (arith, at) in
         let by_order = put ∙ ap (λ (o : Order). with_tie o s row.ties) facts.0 in
-        let first = subst (λ (n : ℕ). eqb (0 + i) n ≡ true) here (same_number (0 + i)) in (
+        let first = subst (λ (n : ℕ). eqb (0 + i) n ≡ true) here (eqb-self (0 + i)) in (
           row-with order s 0 i rs d e (sym here) lt rows
               (by_order ∙ ap (λ (r : SeenPairs V). with_tie order s r.ties) is),
           rows-set order 0 i rs e (

@@ -3,9 +3,9 @@
 use Rattle.std.proofs.Common.{ℕ, Bool, true, false, cond, ◌≡◌, ◌≤◌, ◌+◌, List, ◌∷◌, length, Some, refl, sym, arith}
 use Rattle.std.specs.Prelude.{nat_le}
 use Rattle.std.proofs.lemmas.Bool.{true≢false}
-use Rattle.std.proofs.lemmas.Bool.Decides.{nat_tests}
 use Rattle.cr_base.specs.declared.entry.Stamped.{Stamped}
 use Rattle.cr_base.specs.History.{History}
+use Rattle.cr_base.proofs.Small.{nat_le-trans}
 use Rattle.cr_rooms.specs.Rooms.{IsNoLess, IsOneLess}
 use Rattle.cr_rooms.proofs.GroupRooms.{room-for-behind, room-for-kept, room-for-rest}
 use Rattle.cr_kept.specs.Beside.{rooms_beside}
@@ -24,11 +24,8 @@ room-behind s rest rooms has =
 counted : (old_sums new_sums old new more : ℕ) → old_sums ≤ new_sums → old ≤ new + more
     → cond (nat_le 10000 old_sums) old 0 ≤ cond (nat_le 10000 new_sums) new 0 + more
 counted old_sums new_sums old new more le few =
-    by (nat_le 10000 old_sums) (nat_le 10000 new_sums) (still 10000 old_sums new_sums le)
+    by (nat_le 10000 old_sums) (nat_le 10000 new_sums) (nat_le-trans 10000 old_sums new_sums le)
   where
-    still : (most old new : ℕ) → old ≤ new → nat_le most old ≡ true → nat_le most new ≡ true
-    still most old new le is = grind (arith, nat_tests, le, is)
-
     by : (a b : Bool) → (a ≡ true → b ≡ true) → cond a old 0 ≤ cond b new 0 + more
     by true true on = few
     by true false on = absurd (true≢false (sym (on refl)))

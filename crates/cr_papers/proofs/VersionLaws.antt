@@ -4,8 +4,7 @@ use Rattle.std.proofs.Common.{ℕ, Bool, true, false, cond, ◌≡◌, ◌<◌, 
 use Rattle.std.proofs.Common.{refl, sym, ap, subst, ◌∙◌, arith, zero, suc, Option, Some, None}
 use Rattle.std.specs.Prelude.{find, map}
 use Rattle.std.specs.List.{slice_get}
-use Rattle.std.proofs.lemmas.Bool.{eqb-true}
-use Rattle.std.proofs.lemmas.Bool.Decides.{nat_tests}
+use Rattle.std.proofs.lemmas.Bool.{eqb-true, eq-eqb}
 use Rattle.std.proofs.lemmas.List.{map-append}
 use Rattle.cr_base.specs.declared.filed.Filed.{Filed}
 use Rattle.cr_base.specs.Filed.{filed, with_filed, filed_of}
@@ -13,13 +12,8 @@ use Rattle.cr_base.specs.History.{Upload}
 use Rattle.cr_base.specs.Lists.{given, numbers_from}
 use Rattle.cr_base.proofs.FiledLaws.{filed_of-with_filed}
 use Rattle.cr_base.proofs.ListLaws.{numbers_from-push}
+use Rattle.cr_base.proofs.Small.{eqb-below, eqb-above}
 use Rattle.cr_papers.specs.Versions.{AreNumbered}
-
-equal : (n m : ℕ) → n ≡ m → eqb n m ≡ true
-equal n m is = grind (arith, nat_tests)
-
-apart : (n m : ℕ) → n < m → eqb n m ≡ false
-apart n m is = grind (arith, nat_tests)
 
 abbrev numbers_of : List Upload → List ℕ
 numbers_of us = map (λ (u : Upload). u.version) us
@@ -41,10 +35,10 @@ numbered-at : (n m i : ℕ) (us : List Upload) → numbers_of us ≡ numbers_fro
 numbered-at n m i [] h at = refl
 numbered-at n m zero (u ∷ us) h at =
     let is = first_of u.version n (numbers_of us) (numbers_from (n + 1) us) h in
-    ap (λ b. cond b (Some u) (find_number m us)) (equal u.version m (omega (arith, is, at)))
+    ap (λ b. cond b (Some u) (find_number m us)) (eq-eqb u.version m (omega (arith, is, at)))
 numbered-at n m (suc i) (u ∷ us) h at =
     let is = first_of u.version n (numbers_of us) (numbers_from (n + 1) us) h in
-    ap (λ b. cond b (Some u) (find_number m us)) (apart u.version m (omega (arith, is, at)))
+    ap (λ b. cond b (Some u) (find_number m us)) (eqb-below u.version m (omega (arith, is, at)))
     ∙ numbered-at (n + 1) m i us (rest_of u.version n (numbers_of us) (numbers_from (n + 1) us) h) (omega (arith, at))
 
 pub found-at : (us : List Upload) (version i : ℕ) → numbers_of us ≡ numbers_from 1 us → version ≡ 1 + i
@@ -56,11 +50,8 @@ below : (n m : ℕ) (us : List Upload) → numbers_of us ≡ numbers_from n us �
 below n m [] h low = refl
 below n m (u ∷ us) h low =
     let is = first_of u.version n (numbers_of us) (numbers_from (n + 1) us) h in
-    ap (λ b. cond b (Some u) (find_number m us)) (above u.version m (omega (arith, is, low)))
+    ap (λ b. cond b (Some u) (find_number m us)) (eqb-above u.version m (omega (arith, is, low)))
     ∙ below (n + 1) m us (rest_of u.version n (numbers_of us) (numbers_from (n + 1) us) h) (omega (arith, low))
-  where
-    above : (n m : ℕ) → m < n → eqb n m ≡ false
-    above n m is = grind (arith, nat_tests)
 
 -- so there is no version 0
 pub none-at : (us : List Upload) (version : ℕ) → numbers_of us ≡ numbers_from 1 us → version ≡ 0

@@ -9,7 +9,7 @@ ghost use Rattle.cr_base.specs.Steps.{Takes, TakesAtMost};
 ghost use Rattle.cr_rooms.specs.Rooms.{HasRoom, IsNoLess, IsOneLess};
 
 use cr_base::{Blob, PaperNo, Steps, Versions};
-use cr_kept::Files;
+use cr_kept::Cabinet;
 use std::alloc::{AllocError, Global};
 use std::marker::Model;
 use std::sync::ledger::Ledger;
@@ -41,7 +41,7 @@ impl Model for Version {
 /// on: that is true of every table.
 #[derive(Drop)]
 pub(crate) struct Uploads {
-    uploads: Files<Version>,
+    uploads: Cabinet<Version>,
 }
 
 impl Model for Uploads {
@@ -66,7 +66,7 @@ impl Uploads {
         ensures { result.uploads ≡ [] }
     {
         Uploads {
-            uploads: Files::new(alloc),
+            uploads: Cabinet::new(alloc),
         }
     }
 

@@ -3,7 +3,7 @@
 -- stays.
 use Rattle.std.proofs.Common.{ℕ, Bool, true, false, cond, ◌&&◌, ◌||◌, ◌≡◌, ◌≤◌, ◌<◌, ◌+◌, suc, List, [], ◌∷◌, ◌++◌}
 use Rattle.std.proofs.Common.{append-nil, append_assoc, eqb, refl, sym, ap, subst, ◌∙◌, arith, Option, Some, None}
-use Rattle.std.proofs.Common.{Result, Ok, Err}
+use Rattle.std.proofs.Common.{Result, Ok, Err, le_refl}
 use Rattle.std.specs.Prelude.{map, nat_le}
 use Rattle.std.specs.Cmp.Derive.{both_true}
 use Rattle.std.specs.List.{list_any}
@@ -111,10 +111,6 @@ module _ (Holds : ℕ → Type 0) (line : AccountLine) (lines : List AccountLine
   later Held so found =
       (found.0, so found.0 found.1, or_right (is_line found.0 line) (list_any (is_line found.0) lines) found.2)
 
--- numbers
-itself : (n : ℕ) → n ≤ n
-itself n = omega arith
-
 from-next : (n v : ℕ) → n + 1 ≤ v → n ≤ v
 from-next n v from = omega (arith, from)
 
@@ -146,7 +142,7 @@ module _ (n : ℕ) (a : AccountKept) (accounts : List AccountKept) where
   some-step : (b : Bool) → is_chair a.role ≡ b → 1 ≤ chair_count (line ∷ lines_behind)
       → (1 ≤ chair_count lines_behind → Finds (λ v. n + 1 ≤ v) lines_behind)
       → Finds (λ v. n ≤ v) (line ∷ lines_behind)
-  some-step true is few found = here (λ v. n ≤ v) line lines_behind is (itself n)
+  some-step true is few found = here (λ v. n ≤ v) line lines_behind is (le_refl n)
   some-step false is few found =
       later (λ v. n ≤ v) line lines_behind (λ v. n + 1 ≤ v) (λ v from. from-next n v from)
       (found (left-all 1 (chair_count lines_behind) (subst (λ (m : ℕ). 1 ≤ m) (counted false is) few)))

@@ -51,7 +51,7 @@ use Rattle.cr_policy.specs.Judge.{judge}
 use Rattle.cr_policy.specs.Legal.{Legal}
 use Rattle.cr_policy.specs.View.{view}
 use Rattle.cr_policy.specs.Sentences.{now, comes_behind, in_time, lasts_or_comes, committee_at_work, is_over}
-use Rattle.cr_policy.specs.Sentences.{is_members, is_chairs, is_above, is_paper, stands, has_part, has_two_chairs}
+use Rattle.cr_policy.specs.Sentences.{is_members, is_chairs, is_above, is_paper, is_live, has_part, has_two_chairs}
 use Rattle.cr_policy.specs.Sentences.{administers, of_some, user_named, is_somebody, is_for_chairs_alone}
 use Rattle.cr_policy.proofs.LegalLaws.{Legal-told}
 use Rattle.cr_policy.proofs.JudgedByHistory.{shown_of, number-same}
@@ -458,7 +458,7 @@ module _ (w : ℕ) (H : History) (legal : Legal H) (m : ℕ) (key : Option Retry
           ∙ declared-said (authors_have_declared (phase_of H)) (conflicts_are_final (phase_of H)) (is_paper p H)
           (is_withdrawn p H) late (by p)
           (user_at p v (role_of (Some v) H)) (same_user v) (has_part v p H) (part-same p v)
-          ∙ (λ i. stands p H
+          ∙ (λ i. is_live p H
           && ((early-same (phase_of H) i && time i && is_author (Some w) p H && is_members (role_of (Some v) H))
           ||
           (in_committee-same (phase_of H) i && ((eqb v w && is_members (role_of (Some v) H))
@@ -473,7 +473,7 @@ module _ (w : ℕ) (H : History) (legal : Legal H) (m : ℕ) (key : Option Retry
   chair-checks : (p : ℕ) (rest : Bool)
       → (not (not (is_paper p H)) && (not (not (is_chair (role_of (Some w) H))) && (not (is_conflicted (Some w) p H)
       && (not (not (committee_works (phase_of H))) && (not (is_withdrawn p H) && rest)))))
-      ≡ (stands p H && administers w p H && committee_at_work H && rest)
+      ≡ (is_live p H && administers w p H && committee_at_work H && rest)
   chair-checks p rest =
       chair-said (is_paper p H) (is_chair (role_of (Some w) H)) (is_conflicted (Some w) p H)
       (committee_works (phase_of H)) (is_withdrawn p H)
@@ -502,7 +502,7 @@ module _ (w : ℕ) (H : History) (legal : Legal H) (m : ℕ) (key : Option Retry
           none_broken (conflict_checks (by p) (named p) (option_map (user_at p v) o) false late)) is
           ∙ chair-checks p (not (not (is_member (role_of (Some v) H) || is_external (Some v) p H))
           && (not (is_author (Some v) p H) && true))
-          ∙ said (stands p H && administers w p H && committee_at_work H)
+          ∙ said (is_live p H && administers w p H && committee_at_work H)
           (is_member (role_of (Some v) H) || is_external (Some v) p H) (has_part v p H)
           (is_author (Some v) p H) (part-same p v)
 
@@ -530,7 +530,7 @@ module _ (w : ℕ) (H : History) (legal : Legal H) (m : ℕ) (key : Option Retry
           ∙ chair-checks p (not (not (is_member (role_of (Some v) H) || is_external (Some v) p H))
           && (not ((user_at p v Account).conflicted)
           && (not (is_reviewer (Some v) p H) && (not (nat_le 26 (length (seats_of p H))) && true))))
-          ∙ said (stands p H && administers w p H && committee_at_work H)
+          ∙ said (is_live p H && administers w p H && committee_at_work H)
           (is_member (role_of (Some v) H) || is_external (Some v) p H) (has_part v p H)
           ((user_at p v Account).conflicted) (is_conflicted (Some v) p H) (is_reviewer (Some v) p H)
           (nat_le 26 (length (seats_of p H))) (nat_lt (length (seats_of p H)) 26)
@@ -559,7 +559,7 @@ module _ (w : ℕ) (H : History) (legal : Legal H) (m : ℕ) (key : Option Retry
           (at_some (λ o. is_written p o H) (ordinal_of (Some v) p H)))) is
           ∙ chair-checks p (not (not (is_reviewer (Some v) p H))
           && (not (at_some (λ o. is_written p o H) (ordinal_of (Some v) p H)) && true))
-          ∙ said (stands p H && administers w p H && committee_at_work H) (is_reviewer (Some v) p H)
+          ∙ said (is_live p H && administers w p H && committee_at_work H) (is_reviewer (Some v) p H)
           (at_some (λ o. is_written p o H) (ordinal_of (Some v) p H)) (has_written v p H)
           (at-same (λ o. is_written p o H) (ordinal_of (Some v) p H))
 
@@ -585,7 +585,7 @@ module _ (w : ℕ) (H : History) (legal : Legal H) (m : ℕ) (key : Option Retry
           none_broken (invite_checks (by p) (named p) (option_map (user_at p v) o) (is_invited (Some v) p H))) is
           ∙ chair-checks p (not (is_member (role_of (Some v) H))
           && (not ((user_at p v Account).conflicted) && (not (is_invited (Some v) p H) && true)))
-          ∙ said (stands p H && administers w p H && committee_at_work H) (is_member (role_of (Some v) H))
+          ∙ said (is_live p H && administers w p H && committee_at_work H) (is_member (role_of (Some v) H))
           (is_members (role_of (Some v) H))
           ((user_at p v Account).conflicted) (is_conflicted (Some v) p H) (is_invited (Some v) p H)
           (member-same (role_of (Some v) H)) (clash-same p v)
@@ -611,7 +611,7 @@ module _ (w : ℕ) (H : History) (legal : Legal H) (m : ℕ) (key : Option Retry
           (λ (o : Option Role).
           none_broken (uninvite_checks (by p) (named p) (option_map (user_at p v) o) (is_invited (Some v) p H))) is
           ∙ chair-checks p (not (not (is_invited (Some v) p H)) && (not (is_reviewer (Some v) p H) && true))
-          ∙ said (stands p H && administers w p H && committee_at_work H) (is_invited (Some v) p H)
+          ∙ said (is_live p H && administers w p H && committee_at_work H) (is_invited (Some v) p H)
           (is_reviewer (Some v) p H)
 
 -- ---- the law

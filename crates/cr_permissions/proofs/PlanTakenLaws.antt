@@ -45,6 +45,7 @@ use Rattle.cr_base.proofs.ListLaws.{role_among-lines_of}
 use Rattle.cr_base.proofs.PlanLaws.{papers-rise, users, users-rise}
 use Rattle.cr_base.proofs.SpelledNumbers.{paper-spelt}
 use Rattle.cr_base.proofs.TargetLaws.{paper_within}
+use Rattle.cr_base.proofs.Small.{nat_lt-eqb, nat_lt-eqb-swap}
 use Rattle.cr_history.specs.Invariants.{Invariants}
 use Rattle.cr_history.specs.Laws.{AreFormsTold, AreTold}
 use Rattle.cr_history.proofs.FormAgreement.{forms_tell}
@@ -144,10 +145,7 @@ all-among test (q ∷ ps) p all one =
 others : (p : ℕ) (ps : List ℕ) → list_all (nat_lt p) ps ≡ true → AllByRecursion (λ (q : ℕ). eqb p q ≡ false) ps
 others p [] h = tt
 others p (q ∷ ps) h = let parts =
-    and_parts (nat_lt p q) (list_all (nat_lt p) ps) h in (differ p q parts.0, others p ps parts.1)
-  where
-    differ : (n m : ℕ) → nat_lt n m ≡ true → eqb n m ≡ false
-    differ n m h = grind (arith, nat_tests)
+    and_parts (nat_lt p q) (list_all (nat_lt p) ps) h in (nat_lt-eqb p q parts.0, others p ps parts.1)
 
 -- ---- what is planned, by the tables of a legal history
 
@@ -356,13 +354,10 @@ module _ (user at : ℕ) (key : Option RetryKey) (per_paper load : ℕ) (H : His
   of-other_users p a [] h = tt
   of-other_users p a (b ∷ bs) h =
       let parts = and_parts (nat_lt a.user b.user) (list_all (nat_lt a.user) (users bs)) h in (
-        ap (λ (c : Bool). eqb p p && c) (differ a.user b.user parts.0)
+        ap (λ (c : Bool). eqb p p && c) (nat_lt-eqb-swap a.user b.user parts.0)
             ∙ and-false (eqb p p),
         of-other_users p a bs parts.1,
       )
-    where
-      differ : (n m : ℕ) → nat_lt n m ≡ true → eqb m n ≡ false
-      differ n m h = grind (arith, nat_tests)
 
   of-one_paper : (p : ℕ) (lines : List AccountLine) → IsRising (users lines) → AreApart (map (pair p) lines)
   of-one_paper p [] h = tt

@@ -1,6 +1,6 @@
 -- SPDX-License-Identifier: Apache-2.0 OR MIT
--- A second statement of who may send a bulk: a chair, while the committee works, who may do what each row asks for, after
--- the rows before it.
+-- A second statement of who may send a bulk: a chair, while the committee works, who may do what each row asks for,
+-- after the rows before it.
 use Rattle.std.specs.Prelude.{ℕ, Bool, true, false, not, ◌&&◌, ◌==◌, ◌≡◌, List, [], ◌∷◌, ◌++◌, map, Some}
 use Rattle.std.specs.Prelude.{Result, Ok, Err, is_ok, codes}
 use Rattle.std.specs.List.{list_any}

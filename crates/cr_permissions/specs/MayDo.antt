@@ -21,7 +21,7 @@ use Rattle.cr_policy.specs.Judge.{judge}
 use Rattle.cr_policy.specs.Legal.{Legal}
 use Rattle.cr_policy.specs.Sentences.{now, comes_behind, before_bidding, committee_at_work, is_over, is_above}
 use Rattle.cr_policy.specs.Sentences.{in_time, lasts_or_comes}
-use Rattle.cr_policy.specs.Sentences.{on_committee, chairs, has_two_chairs, stands, in_conflict, has_part}
+use Rattle.cr_policy.specs.Sentences.{on_committee, chairs, has_two_chairs, is_live, in_conflict, has_part}
 use Rattle.cr_policy.specs.Sentences.{may_have_it}
 use Rattle.cr_policy.specs.Sentences.{wrote, is_eligible, administers, reviews, of_some, user_named, is_somebody}
 use Rattle.cr_policy.specs.Sentences.{is_for_chairs_alone}
@@ -64,7 +64,7 @@ may_submit u at H names =
 
 -- an author may revise the paper, or withdraw it, in the submission until its deadline, unless it is withdrawn
 abbrev pub may_change : ℕ → ℕ → History → ℕ → Bool
-may_change u at H p = stands p H && wrote u p H && now Submission H && in_time at H
+may_change u at H p = is_live p H && wrote u p H && now Submission H && in_time at H
 
 -- an author may upload a version of the paper's content, in the submission until its deadline, unless it is withdrawn,
 -- if all that the author has uploaded is then at most 64 MiB
@@ -78,26 +78,26 @@ may_upload u at H bytes p = may_change u at H p && nat_le (own_bytes_of (Some u)
 -- paper. That chair may also declare an external of the paper.
 abbrev pub may_declare : ℕ → ℕ → History → ℕ → ℕ → Bool
 may_declare u at H p v =
-    stands p H
+    is_live p H
     && ((before_bidding H && in_time at H && wrote u p H && on_committee v H)
     || (committee_at_work H && ((v == u && on_committee v H) || (administers u p H && has_part v p H))))
 
 -- while the committee works, a chair in no conflict with a paper that isn't withdrawn may turn off a conflict of a
 -- member or an external of the paper who is no author of it
 abbrev pub may_take_back : ℕ → History → ℕ → ℕ → Bool
-may_take_back u H p v = stands p H && administers u p H && committee_at_work H && has_part v p H && not (wrote v p H)
+may_take_back u H p v = is_live p H && administers u p H && committee_at_work H && has_part v p H && not (wrote v p H)
 
 -- ---- bids, and who reviews
 
 -- a member in no conflict with a paper that isn't withdrawn may bid on it, in the bidding until its deadline
 abbrev pub may_bid : ℕ → ℕ → History → ℕ → Bool
-may_bid u at H p = stands p H && is_eligible u p H && now Bidding H && in_time at H
+may_bid u at H p = is_live p H && is_eligible u p H && now Bidding H && in_time at H
 
 -- while the committee works, a chair in no conflict with a paper that isn't withdrawn may assign it to a member, or an
 -- external of it, who is in no conflict with it and doesn't review it, while fewer than 26 of its labels are given
 abbrev pub may_assign : ℕ → History → ℕ → ℕ → Bool
 may_assign u H p v =
-    stands p H && administers u p H && committee_at_work H && may_have_it v p H && not (reviews v p H)
+    is_live p H && administers u p H && committee_at_work H && may_have_it v p H && not (reviews v p H)
     && nat_lt (length (seats_of p H)) 26
 
 -- there is a form under the label under which the user reviews the paper
@@ -108,20 +108,20 @@ has_written v p H = of_some (ordinal_of (Some v) p H) (λ o. is_written p o H)
 -- whose label there is no form
 abbrev pub may_unassign : ℕ → History → ℕ → ℕ → Bool
 may_unassign u H p v =
-    stands p H && administers u p H && committee_at_work H && reviews v p H && not (has_written v p H)
+    is_live p H && administers u p H && committee_at_work H && reviews v p H && not (has_written v p H)
 
 -- while the committee works, a chair in no conflict with a paper that isn't withdrawn may invite a user to it who isn't
 -- on the committee, is in no conflict with it, and isn't invited to it
 abbrev pub may_invite : ℕ → History → ℕ → ℕ → Bool
 may_invite u H p v =
-    stands p H && administers u p H && committee_at_work H && not (on_committee v H) && not (in_conflict v p H)
+    is_live p H && administers u p H && committee_at_work H && not (on_committee v H) && not (in_conflict v p H)
     && not (is_invited (Some v) p H)
 
 -- while the committee works, a chair in no conflict with a paper that isn't withdrawn may end the invitation of a user
 -- who is invited to it and doesn't review it
 abbrev pub may_uninvite : ℕ → History → ℕ → ℕ → Bool
 may_uninvite u H p v =
-    stands p H && administers u p H && committee_at_work H && is_invited (Some v) p H && not (reviews v p H)
+    is_live p H && administers u p H && committee_at_work H && is_invited (Some v) p H && not (reviews v p H)
 
 -- ---- reviews, responses, comments, tags and decisions
 
@@ -129,28 +129,28 @@ may_uninvite u H p v =
 -- write a form, in the reviewing and in the discussion, in each until its deadline
 abbrev pub may_review : ℕ → ℕ → History → ℕ → Bool
 may_review u at H p =
-    stands p H && may_have_it u p H && reviews u p H && (now Reviewing H || now Discussion H) && in_time at H
+    is_live p H && may_have_it u p H && reviews u p H && (now Reviewing H || now Discussion H) && in_time at H
 
 -- an author of a paper that isn't withdrawn may respond to its reviews, in the response until its deadline, if none of
 -- its authors has
 abbrev pub may_respond : ℕ → ℕ → History → ℕ → Bool
-may_respond u at H p = stands p H && wrote u p H && now Response H && in_time at H && is_none (response_of p H)
+may_respond u at H p = is_live p H && wrote u p H && now Response H && in_time at H && is_none (response_of p H)
 
 -- a member in no conflict with a paper that isn't withdrawn may comment on it, in the discussion until its deadline,
 -- while the member has written fewer than 1,000 comments
 abbrev pub may_comment : ℕ → ℕ → History → ℕ → Bool
 may_comment u at H p =
-    stands p H && is_eligible u p H && now Discussion H && in_time at H && nat_lt (own_comments_of (Some u) H) 1000
+    is_live p H && is_eligible u p H && now Discussion H && in_time at H && nat_lt (own_comments_of (Some u) H) 1000
 
 -- while the committee works, a member in no conflict with a paper that isn't withdrawn may turn its tags on and off,
 -- those for chairs only if the member is one
 abbrev pub may_tag : ℕ → History → List ℕ → ℕ → Bool
 may_tag u H tag p =
-    stands p H && is_eligible u p H && committee_at_work H && (chairs u H || not (is_for_chairs_alone tag))
+    is_live p H && is_eligible u p H && committee_at_work H && (chairs u H || not (is_for_chairs_alone tag))
 
 -- a chair in no conflict with a paper that isn't withdrawn may decide on it, in the discussion
 abbrev pub may_decide : ℕ → History → ℕ → Bool
-may_decide u H p = stands p H && administers u p H && now Discussion H
+may_decide u H p = is_live p H && administers u p H && now Discussion H
 
 -- ---- all of them
 

@@ -1,6 +1,6 @@
 -- SPDX-License-Identifier: Apache-2.0 OR MIT
--- Who may read what, said a second time: for each query one sentence, as a committee says it, written from
--- docs/API.md and not from the lists of checks.
+-- A second statement of who may read what: for each query one sentence, as a committee says it, written from
+-- docs/API.md and not from the lists of checks. `u` is the caller, and `p` the paper named.
 use Rattle.std.specs.Prelude.{ℕ, Bool, true, false, not, ◌&&◌, ◌||◌, ◌==◌, ◌≡◌, ◌*◌, nat_le, List, length, Option}
 use Rattle.std.specs.Prelude.{Some, None, is_some}
 use Rattle.std.specs.List.{list_any}
@@ -27,17 +27,17 @@ use Rattle.cr_policy.specs.ViewFacts.{facts_in_view, shown_in_view}
 
 -- ---- a paper
 
--- members, its externals and its authors, and every user once it is accepted, get a paper's page
+-- members, the paper's externals and its authors may have its page, and every user once it is accepted
 abbrev pub may_see_page : ℕ → History → ℕ → Bool
 may_see_page u H p = has_part u p H || wrote u p H || is_in p H
 
--- a paper's authors read its content; others do where they are members or externals of it in no conflict with it, from
--- the bidding on
+-- a paper's authors may read its content; its externals and members who are in no conflict with it may from the bidding
+-- on
 abbrev pub may_read_content : ℕ → History → ℕ → Bool
 may_read_content u H p = wrote u p H || (may_have_it u p H && not (before_bidding H))
 
--- the version that is asked for is there, as far as it may be read: to authors any that was uploaded, to others the
--- last one alone; the last one where none is named
+-- this version of the content is there and may be read: of its authors (the `Bool`) every version that was uploaded, of
+-- others only the last; without a version named, the last is meant
 abbrev pub has_version : Bool → Option ℕ → List Upload → Bool
 has_version author None uploads = not (is_nothing uploads)
 has_version true (Some version) uploads = list_any (λ (u : Upload). u.version == version) uploads

@@ -1,6 +1,6 @@
 -- SPDX-License-Identifier: Apache-2.0 OR MIT
--- That a plan is accepted as a bulk with a row for each of its pairs, if the user who was told it sends it before anything
--- else happens.
+-- That a plan is accepted as a bulk with a row for each of its pairs, if the user who was told it sends it before
+-- anything else happens.
 use Rattle.std.specs.Prelude.{ℕ, List, [], map, decimal, codes, Option, Some, IsOk, ◌≡◌}
 use Rattle.cr_base.specs.declared.bulk.BulkRow.{BulkRow}
 use Rattle.cr_base.specs.declared.retry.RetryKey.{RetryKey}

@@ -1,5 +1,6 @@
 -- SPDX-License-Identifier: Apache-2.0 OR MIT
--- A bulk does what its rows' commands do, given one after another. The bulk has one number; its rows' commands have none.
+-- A bulk does what its rows' commands do, given one after another. The bulk has one number; its rows' commands have
+-- none.
 use Rattle.std.specs.Prelude.{ℕ, false, ◌≡◌, ◌+◌, List, [], ◌∷◌, ◌++◌, length, map, Some, Result, Ok, Err}
 use Rattle.std.specs.List.{flat_map}
 use Rattle.cr_base.specs.declared.bulk.Broken.TheVariants as broken

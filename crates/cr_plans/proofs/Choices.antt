@@ -5,7 +5,8 @@ use Rattle.std.proofs.Common.{◌≡◌, ◌⊎◌, inl, inr, ℕ, suc, ◌≤�
 use Rattle.std.proofs.Common.{length, map, refl, arith, ap, sym, ◌∙◌, subst, Option, Some, None}
 use Rattle.std.specs.Prelude.{filter, nat_lt, unwrap_or}
 use Rattle.std.specs.Option.{option_map}
-use Rattle.std.proofs.lemmas.Bool.Decides.{nat_tests}
+use Rattle.std.proofs.lemmas.Bool.{ltb-true, ltb-false}
+use Rattle.std.proofs.lemmas.List.{map-append}
 use Rattle.cr_base.specs.Plans.{PlanPair, choices, bid_sum, or_greater, first_greatest}
 use Rattle.cr_match.specs.declared.problem.Pair.{Pair}
 use Rattle.cr_match.specs.Plan.{kept}
@@ -209,12 +210,6 @@ module _ {A : Type 0} (sum : A → ℕ) where
         alone y (inr more) = absurd (nothing-there zs is y more)
     with-first z zs behind (Some w) is rest = by (nat_lt (sum z) (sum w)) refl (rest w is)
       where
-        less : (a b : ℕ) → nat_lt a b ≡ true → a < b
-        less a b h = grind (arith, nat_tests)
-
-        most : (a b : ℕ) → nat_lt a b ≡ false → b ≤ a
-        most a b h = grind (arith, nat_tests)
-
         later : IsBestOf w zs → sum z < sum w → (y : A) → IsOne y (z ∷ zs) → NoBetter w y
         later r lt y (inl same) = inl (subst (λ (v : A). sum v < sum w) (sym same) lt)
         later r lt y (inr more) = r.all y more
@@ -230,16 +225,16 @@ module _ {A : Type 0} (sum : A → ℕ) where
             split a b h = by_less (nat_lt a b) refl
               where
                 by_less : (c : Bool) → nat_lt a b ≡ c → (a < b) ⊎ (a ≡ b)
-                by_less true is = inl (less a b is)
-                by_less false is = inr (omega (arith, most a b is, h))
+                by_less true is = inl (ltb-true a b is)
+                by_less false is = inr (omega (arith, ltb-false a b is, h))
 
         first : IsBestOf w zs → sum w ≤ sum z → (y : A) → IsOne y (z ∷ zs) → NoBetter z y
         first r le y (inl same) = inr (ap sum same, inl same)
         first r le y (inr more) = so_far r le y more (r.all y more)
 
         by : (b : Bool) → nat_lt (sum z) (sum w) ≡ b → IsBestOf w zs → IsBestOf (cond b w z) (z ∷ zs)
-        by true is r = record { one = inr r.one; all = λ y one. later r (less (sum z) (sum w) is) y one }
-        by false is r = record { one = inl refl; all = λ y one. first r (most (sum z) (sum w) is) y one }
+        by true is r = record { one = inr r.one; all = λ y one. later r (ltb-true (sum z) (sum w) is) y one }
+        by false is r = record { one = inl refl; all = λ y one. first r (ltb-false (sum z) (sum w) is) y one }
 
     pub best-of : (xs : List A) → InOrder R xs → (best : A) → first_most xs ≡ Some best → IsBestOf best xs
     best-of [] order best is = absurd (cc (is))
@@ -268,10 +263,6 @@ filter-map {A} {B} test f (x ∷ xs) = by (test (f x)) (filter-map test f xs)
         ≡ map f (cond b (x ∷ filter (λ y. test (f y)) xs) (filter (λ y. test (f y)) xs))
     by true rest = ap (λ (ys : List B). f x ∷ ys) rest
     by false rest = rest
-
-map-append : {A B : Type 0} (f : A → B) (xs ys : List A) → map f (xs ++ ys) ≡ map f xs ++ map f ys
-map-append f [] ys = refl
-map-append f (x ∷ xs) ys = ap (λ zs. f x ∷ zs) (map-append f xs ys)
 
 map-both : {A B : Type 0} (f : A → B) (x : A) (ps : List (List A))
     → map (map f) (map (λ (p : List A). x ∷ p) ps) ≡ map (λ (q : List B). f x ∷ q) (map (map f) ps)

@@ -1,7 +1,7 @@
 -- SPDX-License-Identifier: Apache-2.0 OR MIT
 -- What the program makes of what is planned, and of what answers its problem, is what is due.
 use Rattle.std.proofs.Common.{ℕ, false, ◌≡◌, ◌≤◌, ◌+◌, ◌*◌, ◌||◌, zero, suc, List, [], ◌∷◌, ◌++◌, length, map, refl}
-use Rattle.std.proofs.Common.{sym, ap, subst, ◌∙◌, arith, Option, Some, None, ℤ}
+use Rattle.std.proofs.Common.{sym, ap, subst, ◌∙◌, arith, Option, Some, None, ℤ, suc-mul}
 use Rattle.std.specs.Prelude.{filter, nat_lt}
 use Rattle.std.specs.List.{flat_map}
 use Rattle.std.specs.Option.{option_map}
@@ -45,10 +45,7 @@ may-fit t user per_paper may =
 
 pub few-papers : (k n : ℕ) → 1 ≤ k → k * n ≤ 512 → n ≤ 9999
 few-papers zero n some h = absurd (omega (arith, some))
-few-papers (suc k) n some h = let e : suc k * n ≡ k * n + n = one_more k n in omega (arith, e, h)
-  where
-    one_more : (k n : ℕ) → suc k * n ≡ k * n + n
-    one_more k n = omega arith
+few-papers (suc k) n some h = let e : suc k * n ≡ k * n + n = suc-mul k n in omega (arith, e, h)
 
 -- ---- the text
 

@@ -2,7 +2,7 @@
 -- The pairs of places: they are inside, they ascend, and they stand for the pairs that are planned.
 use Rattle.std.proofs.Common.{◌≡◌, ◌≢◌, ◌⊎◌, inl, inr, ℕ, zero, suc, ◌+◌, ◌≤◌, ◌<◌, ◌-◌, ◌*◌, Bool, true, false, cond, List}
 use Rattle.std.proofs.Common.{[], ◌∷◌, ◌++◌, length, length-append, get_or, map, Option, refl, arith, ap, sym, ◌∙◌}
-use Rattle.std.proofs.Common.{subst, ℤ, pos, negsuc}
+use Rattle.std.proofs.Common.{subst, ℤ, pos, negsuc, add-zero, zero-add, suc-mul}
 use Rattle.std.specs.Prelude.{filter, slice_index, slice_index_or}
 use Rattle.std.specs.List.{flat_map}
 use Rattle.std.proofs.lemmas.Int.{ints}
@@ -237,28 +237,19 @@ module _ (t : Tables) (user : Option ℕ) (papers : List ℕ) where
   told-papers i [] at = refl
   told-papers i (p ∷ rest) at =
       let first : map (told papers members) (pairs_of_place t i p 0 members) ≡ pairs_of_paper facts shown p =
-      told-place i p 0 members (ap (λ (n : ℕ). get_or papers n 0) (sym (none i)) ∙ at 0)
-      (λ k. ap (λ (n : ℕ). get_or members n no_line) (from_none k)) in
+      told-place i p 0 members (ap (λ (n : ℕ). get_or papers n 0) (sym (add-zero i)) ∙ at 0)
+      (λ k. ap (λ (n : ℕ). get_or members n no_line) (zero-add k)) in
       let others : map (told papers members) (pairs_at t (i + 1) rest members) ≡ flat_map (pairs_of_paper facts shown)
       rest =
       told-papers (i + 1) rest (λ k. ap (λ (n : ℕ). get_or papers n 0) (behind i k) ∙ at (suc k)) in
       map-append (told papers members) (pairs_of_place t i p 0 members) (pairs_at t (i + 1) rest members)
       ∙ (λ k. first k ++ others k)
     where
-      none : (i : ℕ) → i + 0 ≡ i
-      none i = omega arith
-
-      from_none : (k : ℕ) → 0 + k ≡ k
-      from_none k = omega arith
-
       behind : (i k : ℕ) → i + 1 + k ≡ i + suc k
       behind i k = omega arith
 
   pub told-all : map (told papers members) (pairs_at t 0 papers members) ≡ flat_map (pairs_of_paper facts shown) papers
-  told-all = told-papers 0 papers (λ k. ap (λ (n : ℕ). get_or papers n 0) (from_none k))
-    where
-      from_none : (k : ℕ) → 0 + k ≡ k
-      from_none k = omega arith
+  told-all = told-papers 0 papers (λ k. ap (λ (n : ℕ). get_or papers n 0) (zero-add k))
 
 -- ---- how many there are
 
@@ -288,11 +279,8 @@ module _ (t : Tables) where
       ≡ length (pairs_of_place t i p 0 members) + length (pairs_at t (i + 1) papers members) =
       length-append (pairs_of_place t i p 0 members) (pairs_at t (i + 1) papers members) in
       let m : length (p ∷ papers) * length members ≡ length papers * length members + length members =
-      one_more (length papers) (length members) in
+      suc-mul (length papers) (length members) in
       omega (arith, l, m, few-place i p 0 members, pairs-few (i + 1) papers members)
-    where
-      one_more : (n m : ℕ) → suc n * m ≡ n * m + m
-      one_more n m = omega arith
 
 -- pairs that ascend are distinct
 

@@ -8,13 +8,13 @@ use Rattle.std.specs.List.{list_all}
 use Rattle.std.specs.Option.{option_map}
 use Rattle.std.proofs.lemmas.Int.{ints}
 use Rattle.std.proofs.lemmas.List.Sums.{sum_by-cons}
-use Rattle.std.proofs.lemmas.Bool.{and_parts, and_from, eq-eqb}
+use Rattle.std.proofs.lemmas.Bool.{and_parts, and_from, eq-eqb, ltb-true, ltb-false, eqb-true, le-leb, leb-true}
 use Rattle.std.proofs.lemmas.Bool.Decides.{nat_tests}
 use Rattle.cr_base.specs.declared.reply.AccountLine.{AccountLine}
 use Rattle.cr_base.specs.Lists.{IsRising}
 use Rattle.cr_base.specs.Plans.{PlanPair, bid_sum, choices, first_greatest, is_of_member, is_of_paper, is_plan}
-use Rattle.cr_base.proofs.ListLaws.{turned}
 use Rattle.cr_base.proofs.SortedLists.{sorted-at, list_all-at}
+use Rattle.cr_base.proofs.Small.{nat_lt-eqb, eqb-swap}
 use Rattle.cr_match.specs.declared.problem.Pair.{Pair}
 use Rattle.cr_match.specs.declared.problem.Problem.{Problem}
 use Rattle.cr_match.specs.declared.problem.Prices.{Prices}
@@ -55,29 +55,20 @@ not-both (x ∷ xs) (y ∷ ys) (inr h) (inr k) = not-both xs ys h.2 k.2
 
 -- ---- places and numbers
 
-differ : (x y : ℕ) → nat_lt x y ≡ true → eqb x y ≡ false
-differ x y h = grind (arith, nat_tests)
-
-less : (x y : ℕ) → nat_lt x y ≡ true → x < y
-less x y h = grind (arith, nat_tests)
-
-most : (x y : ℕ) → nat_lt x y ≡ false → y ≤ x
-most x y h = grind (arith, nat_tests)
-
 -- numbers that rise are the same exactly at the same places
 same-place : (ns : List ℕ) → IsRising ns → (i j : ℕ) → i < length ns → j < length ns
     → eqb (get_or ns i 0) (get_or ns j 0) ≡ eqb i j
 same-place ns rising i j li lj = by (nat_lt i j) refl (nat_lt j i) refl
   where
     by : (b : Bool) → nat_lt i j ≡ b → (c : Bool) → nat_lt j i ≡ c → eqb (get_or ns i 0) (get_or ns j 0) ≡ eqb i j
-    by true is c is' = differ (get_or ns i 0) (get_or ns j 0) (sorted-at nat_lt ns rising i j 0 (less i j is) lj)
-        ∙ sym (differ i j is)
+    by true is c is' = nat_lt-eqb (get_or ns i 0) (get_or ns j 0) (sorted-at nat_lt ns rising i j 0 (ltb-true i j is) lj)
+        ∙ sym (nat_lt-eqb i j is)
     by false is true is' =
-        turned (get_or ns i 0) (get_or ns j 0)
-        ∙ differ (get_or ns j 0) (get_or ns i 0) (sorted-at nat_lt ns rising j i 0 (less j i is') li)
-        ∙ sym (turned i j ∙ differ j i is')
+        eqb-swap (get_or ns i 0) (get_or ns j 0)
+        ∙ nat_lt-eqb (get_or ns j 0) (get_or ns i 0) (sorted-at nat_lt ns rising j i 0 (ltb-true j i is') li)
+        ∙ sym (eqb-swap i j ∙ nat_lt-eqb j i is')
     by false is false is' =
-        let e : i ≡ j = omega (arith, most i j is, most j i is') in
+        let e : i ≡ j = omega (arith, ltb-false i j is, ltb-false j i is') in
         eq-eqb (get_or ns i 0) (get_or ns j 0) (ap (λ (k : ℕ). get_or ns k 0) e) ∙ sym (eq-eqb i j e)
 
 users-at : (members : List AccountLine) (i : ℕ)
@@ -175,27 +166,15 @@ module _ (papers : List ℕ) (members : List AccountLine) (rising : IsRising pap
       (omega (arith, (inside e one).1, length-map (λ (a : AccountLine). a.user) members))
       (omega (arith, low, length-map (λ (a : AccountLine). a.user) members)))
 
-  level : (n m : ℕ) → n ≡ m → eqb n m ≡ true
-  level n m h = eq-eqb n m h
-
-  unlevel : (n m : ℕ) → eqb n m ≡ true → n ≡ m
-  unlevel n m h = grind (arith, nat_tests)
-
-  within : (n m : ℕ) → n ≤ m → nat_le n m ≡ true
-  within n m h = grind (arith, nat_tests)
-
-  under : (n m : ℕ) → nat_le n m ≡ true → n ≤ m
-  under n m h = grind (arith, nat_tests)
-
   pub plan-told : IsPlan (length papers) per_paper load chosen
       → is_plan papers members per_paper load (map pair chosen) ≡ true
   plan-told h =
       and_from _ _
       (all-from (λ (p : ℕ). eqb (count_by (is_of_paper p) (map pair chosen)) per_paper) 0 papers
-      (λ q low. level (count_by (is_of_paper (get_or papers q 0)) (map pair chosen)) per_paper
+      (λ q low. eq-eqb (count_by (is_of_paper (get_or papers q 0)) (map pair chosen)) per_paper
       (of-paper q low ∙ h.full q low)))
       (all-from (λ (a : AccountLine). nat_le (count_by (is_of_member a.user) (map pair chosen)) load) no_line members
-      (λ m low. within (count_by (is_of_member (get_or members m no_line).user) (map pair chosen)) load
+      (λ m low. le-leb (count_by (is_of_member (get_or members m no_line).user) (map pair chosen)) load
       (omega (arith, of-member m low, h.light m))))
 
   pub told-plan : is_plan papers members per_paper load (map pair chosen) ≡ true
@@ -206,7 +185,7 @@ module _ (papers : List ℕ) (members : List AccountLine) (rising : IsRising pap
       record {
         full = λ q low.
             sym (of-paper q low)
-            ∙ unlevel (count_by (is_of_paper (get_or papers q 0)) (map pair chosen)) per_paper
+            ∙ eqb-true (count_by (is_of_paper (get_or papers q 0)) (map pair chosen)) per_paper
             (list_all-at (λ (p : ℕ). eqb (count_by (is_of_paper p) (map pair chosen)) per_paper) papers q 0 low
             parts.0);
         light = λ m. by (nat_lt m (length members)) m refl parts.1;
@@ -219,16 +198,16 @@ module _ (papers : List ℕ) (members : List AccountLine) (rising : IsRising pap
       by true m is all =
           omega (
             arith,
-            of-member m (less m (length members) is),
-            under (count_by (is_of_member (get_or members m no_line).user) (map pair chosen)) load
+            of-member m (ltb-true m (length members) is),
+            leb-true (count_by (is_of_member (get_or members m no_line).user) (map pair chosen)) load
                 (list_all-at (λ (a : AccountLine). nat_le (count_by (is_of_member a.user) (map pair chosen)) load)
-                members m no_line (less m (length members) is) all),
+                members m no_line (ltb-true m (length members) is) all),
           )
       by false m is all =
           omega (
             arith,
             count-none (of_member m) chosen
-                (λ e one. other e.member m (inside e one).1 (most m (length members) is)),
+                (λ e one. other e.member m (inside e one).1 (ltb-false m (length members) is)),
           )
         where
           other : (n m : ℕ) → n < length members → length members ≤ m → eqb n m ≡ false

@@ -27,7 +27,7 @@ use Rattle.cr_base.specs.Resolving.{resolve}
 use Rattle.cr_base.specs.Sources.{Facts, Shown}
 use Rattle.cr_base.specs.Tables.{Tables, tables_of, FitInTurn}
 use Rattle.cr_base.proofs.FitLaws.{resolved-fits}
-use Rattle.cr_base.proofs.ListLaws.{turned}
+use Rattle.cr_base.proofs.Small.{eqb-swap}
 use Rattle.cr_history.specs.Groups.{IsBoundedStamp, Adds}
 use Rattle.cr_history.specs.Laws.{AreTold, AreFormsTold}
 use Rattle.cr_history.specs.Invariants.{IsRegistered, Invariants, InTurn, IsInOrder, ComesFirst}
@@ -101,7 +101,7 @@ module _ (user : ℕ) (H : History) where
           ap (λ (lines : List AccountLine). list_any (eqb v) (map (λ (a : AccountLine). a.user) lines))
           (accounts-seen (Some user) H)
           ∙ ap (λ (test : ℕ → Bool). list_any test (map (λ (a : AccountLine). a.user) (accounts_of H)))
-          (λ i n. turned v n i)
+          (λ i n. eqb-swap v n i)
           ∙ users-registered H v
           ∙ registered
 

@@ -11,6 +11,7 @@ use Rattle.std.proofs.lemmas.Bool.{eqb-true}
 use Rattle.std.proofs.lemmas.Bool.Decides.{nat_tests}
 use Rattle.std.proofs.lemmas.List.Elements.{recursion_from_All}
 use Rattle.std.proofs.lemmas.Slice.Eq.{bytes_eq-Decides}
+use Rattle.std.proofs.lemmas.Option.{none-some, same_Some}
 use Rattle.cr_base.specs.declared.entry.Account.{Account}
 use Rattle.cr_base.specs.declared.entry.Entry.{Entry}
 use Rattle.cr_base.specs.declared.entry.Entry.TheVariants.{Registered, Named, Dismissed}
@@ -28,12 +29,6 @@ use Rattle.cr_base.proofs.ChangeLaws.{where_changed, numbered-changed_at}
 use Rattle.cr_base.proofs.ListLaws.{numbered-push}
 use Rattle.cr_policy.specs.Legal.{Legal}
 use Rattle.cr_policy.proofs.LegalLaws.{Legal-fits, legal_invariants}
-
-pub none_some : {A : Type 0} (x : A) → None ≡ Some x → ⊥
-none_some x e = cc (e)
-
-some_is : {A : Type 0} (x y : A) → Some x ≡ Some y → x ≡ y
-some_is x y e = cc (e)
 
 -- ---- the user of a name that somebody has
 
@@ -56,7 +51,7 @@ once-push accounts a user next new once v name told = number_at-push accounts a 
     other : (b : Bool) → bytes_eq a.name name ≡ b → number_at accounts name ≡ Some v
         → cond b (Some user) (number_at accounts name) ≡ Some v
     other true same is =
-        absurd (none_some v (sym new ∙ ap (number_at accounts) ((bytes_eq-Decides a.name name).0 same) ∙ is))
+        absurd (none-some v (sym new ∙ ap (number_at accounts) ((bytes_eq-Decides a.name name).0 same) ∙ is))
     other false same is = is
 
     by : (b : Bool) → eqb v (length accounts + 1) ≡ b
@@ -65,7 +60,7 @@ once-push accounts a user next new once v name told = number_at-push accounts a 
     by true is h =
         let here : v ≡ user = eqb-true v (length accounts + 1) is ∙ sym next in
         ap (λ b. cond b (Some user) (number_at accounts name))
-        ((bytes_eq-Decides a.name name).1 (some_is a.name name h)) ∙ ap Some (sym here)
+        ((bytes_eq-Decides a.name name).1 (same_Some a.name name h)) ∙ ap Some (sym here)
     by false is h = other (bytes_eq a.name name) refl (once v name h)
 
 -- another role leaves the names
@@ -100,8 +95,8 @@ once-from t (s ∷ H) fits once =
     once-from (tables_after t s) H fits.1 (once-after t.accounts s.entry fits.0.accounts once)
 
 none-once : AreNamedOnce []
-none-once zero name told = absurd (none_some name told)
-none-once (suc i) name told = absurd (none_some name told)
+none-once zero name told = absurd (none-some name told)
+none-once (suc i) name told = absurd (none-some name told)
 
 -- by the tables of a legal history, who has a name is found by it
 pub found_by_name : (H : History) → Legal H → AreNamedOnce (tables_of H).accounts
@@ -128,7 +123,7 @@ names-push accounts a one names v name told = by (eqb v (length accounts + 1))
   where
     by : (b : Bool) → option_map (λ (x : Account). x.name) (cond b (Some a) (account_at accounts v)) ≡ Some name
         → is_name name ≡ true
-    by true h = ap is_name (sym (some_is a.name name h)) ∙ one
+    by true h = ap is_name (sym (same_Some a.name name h)) ∙ one
     by false h = names v name h
 
 names-after : (accounts : List Account) (stamp : Stamp) (more : Bool) (e : Entry)
@@ -149,8 +144,8 @@ names-from t (s ∷ H) bounded names =
     names-from (tables_after t s) H bounded.1 (names-after t.accounts s.stamp s.more s.entry bounded.0 names)
 
 none-names : AreNames []
-none-names zero name told = absurd (none_some name told)
-none-names (suc i) name told = absurd (none_some name told)
+none-names zero name told = absurd (none-some name told)
+none-names (suc i) name told = absurd (none-some name told)
 
 -- by the tables of a legal history, each user has a name that a row can tell
 pub row_names : (H : History) → Legal H → AreNames (tables_of H).accounts

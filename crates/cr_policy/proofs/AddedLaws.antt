@@ -36,6 +36,7 @@ use Rattle.cr_base.specs.Tables.{tables_of}
 use Rattle.cr_base.specs.Words.{is_member}
 use Rattle.cr_base.proofs.CheckLaws.{NoneBroken, judged-Ok}
 use Rattle.cr_base.proofs.FiledLaws.{filter-filter}
+use Rattle.cr_base.proofs.Small.{eqb-swap}
 use Rattle.cr_history.proofs.RuleFacts.{facts_of}
 use Rattle.cr_policy.specs.Added.{next_user, next_paper, next_version, next_label, next_form, next_comment, without}
 use Rattle.cr_policy.specs.Added.{for_user, once, for_label, added, answered, stamp_added, IsAdded, AddsAsSaid}
@@ -63,9 +64,6 @@ group-added stamp (e ∷ next ∷ es) receipt =
     }
 
 -- ---- co-authors
-
-eqb-turned : (a b : ℕ) → eqb a b ≡ eqb b a
-eqb-turned a b = grind (arith, nat_tests)
 
 filter-same : (p q : ℕ → Bool) → ((x : ℕ) → p x ≡ q x) → (xs : List ℕ) → filter p xs ≡ filter q xs
 filter-same p q same xs = λ i. filter (λ x. same x i) xs
@@ -110,7 +108,7 @@ besides-once these (u ∷ users) = by (list_any (λ v. eqb v u) these) refl (λ 
       where
         more : (v : ℕ) → none_of (these ++ u ∷ []) v ≡ (not (eqb v u) && none_of these v)
         more v =
-            ap not (any-behind these u v) ∙ said (list_any (λ w. eqb w v) these) (eqb u v) (eqb v u) (eqb-turned u v)
+            ap not (any-behind these u v) ∙ said (list_any (λ w. eqb w v) these) (eqb u v) (eqb v u) (eqb-swap u v)
           where
             said : (a b c : Bool) → b ≡ c → not (a || b) ≡ (not c && not a)
             said a b c h = grind arith
@@ -123,7 +121,7 @@ others-once u users =
     said b c h = grind arith
 
     alone : (v : ℕ) → none_of (u ∷ []) v ≡ not (eqb v u)
-    alone v = said (eqb u v) (eqb v u) (eqb-turned u v)
+    alone v = said (eqb u v) (eqb v u) (eqb-swap u v)
 
 -- ---- commands
 

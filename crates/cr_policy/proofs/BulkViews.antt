@@ -17,7 +17,7 @@ use Rattle.cr_base.specs.declared.entry.Stamp.{Stamp}
 use Rattle.cr_base.specs.declared.entry.Stamped.{Stamped}
 use Rattle.cr_base.specs.declared.words.Mode.TheVariants.{Blind}
 use Rattle.cr_base.specs.declared.words.Phase.{Phase}
-use Rattle.cr_base.specs.declared.words.Phase.TheVariants.{Setup, Response, Discussion}
+use Rattle.cr_base.specs.declared.words.Phase.TheVariants.{Setup, Response}
 use Rattle.cr_base.specs.declared.words.Role.TheVariants.{Account}
 use Rattle.cr_base.specs.Decisions.{is_accepted_when}
 use Rattle.cr_base.specs.Drawn.{stamped}
@@ -27,8 +27,9 @@ use Rattle.cr_base.specs.History.{upload_told, form_told, opens}
 use Rattle.cr_base.specs.HistoryFacts.{had_response_of}
 use Rattle.cr_base.specs.Lists.{given, last, last_or, is_nothing, is_number, until}
 use Rattle.cr_base.specs.Words.{is_member}
-use Rattle.cr_base.proofs.ListLaws.{turned}
 use Rattle.cr_base.specs.Bulk.{IsRowEntry}
+use Rattle.cr_base.specs.Phases.{committee_reads_from}
+use Rattle.cr_base.proofs.Small.{eqb-swap}
 use Rattle.cr_history.specs.Invariants.{IsRegistered}
 use Rattle.cr_history.proofs.ListCuts.{until-none, until-append, until-before}
 use Rattle.cr_policy.specs.Part.{Part, own_parts}
@@ -76,7 +77,7 @@ module _ (user : ℕ) where
   no_author e row p = refl
 
   no_own_conflict : (e : Entry) → LeavesStanding user e → (p : ℕ) → conflict_told (Some user) p e ≡ []
-  no_own_conflict (Conflict paper other on) row p = by (eqb paper p) (eqb user other) (turned user other ∙ row)
+  no_own_conflict (Conflict paper other on) row p = by (eqb paper p) (eqb user other) (eqb-swap user other ∙ row)
     where
       by : (b own : Bool) → own ≡ false → given (b && own) on ≡ []
       by true own h = ap (λ (b : Bool). given b on) h
@@ -252,8 +253,8 @@ module _ (stamp : Stamp) (more : Bool) (e : Entry) (row : LeavesStanding stamp.m
         first = none_alike x before;
         last = lasts i;
         last_before_response = not (list_any (opens_at Response) before) && untils Response i;
-        last_before_discussion = not (list_any (opens_at Discussion) before) && untils Discussion i;
-        from_discussion = list_any (opens_at Discussion) before;
+        last_before_discussion = not (list_any (opens_at committee_reads_from) before) && untils committee_reads_from i;
+        from_discussion = list_any (opens_at committee_reads_from) before;
       }
 
   -- so all before it shows what it showed

@@ -17,6 +17,7 @@ use Rattle.cr_base.specs.HistoryFacts.{authors_of, is_author, is_conflict_on, de
 use Rattle.cr_base.specs.Page.{is_clear_chair}
 use Rattle.cr_base.specs.Phases.{chairs_see_conflicts}
 use Rattle.cr_base.specs.Words.{is_chair}
+use Rattle.cr_base.proofs.Small.{and_not_or}
 use Rattle.cr_history.specs.Invariants.{is_opening, ByAuthor, ByHerselfOrOther, Early, Late, DeclaresInTime}
 use Rattle.cr_policy.specs.Part as part
 use Rattle.cr_policy.specs.Sighting.{where_shown}
@@ -148,13 +149,10 @@ module _ (u p : ℕ) (H : History) (author : is_author (Some u) p H ≡ true) wh
       let a : r.author paper ≡ true = ap r.author e ∙ author in
       late_shown (eqb u user) (r.wrote stamp.maker paper) (r.author paper) (is_clear_chair (standing_to r paper))
       (chairs_see_conflicts r.now) (eqb u stamp.maker) a
-      (not_clear (is_chair r.rank) (r.author paper) (is_conflict_on (Some u) paper H) a)
+      (and_not_or (is_chair r.rank) (r.author paper) (is_conflict_on (Some u) paper H) a)
       (λ own. ap (λ m. is_author (Some m) paper H) (sym (eqb-true u stamp.maker own)) ∙ a)
       (λ other named. h (ap (λ n. eqb n stamp.maker) (sym (eqb-true u user named)) ∙ other))
       ∙ ap (λ n. is_author (Some stamp.maker) n H) e)
-    where
-      not_clear : (chair a d : Bool) → a ≡ true → (chair && not (a || d)) ≡ false
-      not_clear chair a d h = grind arith
   late_at at stamp more e h = refl
 
   opening-silent : (wrote : Bool) (e : Entry) → opens Bidding e ≡ true → declared_told wrote p e ≡ []

@@ -19,7 +19,7 @@ use Rattle.cr_base.specs.declared.entry.Stamped.{Stamped}
 use Rattle.cr_base.specs.declared.words.Decision.TheVariants.{Reject}
 use Rattle.cr_base.specs.declared.words.Kind.TheVariants.{Primary}
 use Rattle.cr_base.specs.declared.words.Phase.{Phase}
-use Rattle.cr_base.specs.declared.words.Phase.TheVariants.{Setup, Response, Discussion}
+use Rattle.cr_base.specs.declared.words.Phase.TheVariants.{Setup, Response}
 use Rattle.cr_base.specs.declared.words.Mode.TheVariants.{Blind}
 use Rattle.cr_base.specs.declared.words.Role.TheVariants.{Account}
 use Rattle.cr_base.specs.Lists.{given, listed, is_number, is_nothing, last_or, until}
@@ -27,7 +27,7 @@ use Rattle.cr_base.specs.History.{History, phase_told, mode_told, role_told, aut
 use Rattle.cr_base.specs.History.{opens, title_told, upload_told, form_told, decision_told}
 use Rattle.cr_base.specs.HistoryFacts.{phase_of, mode_of, role_of, authors_of, is_author, is_conflict_on, is_invited}
 use Rattle.cr_base.specs.HistoryFacts.{is_accepted}
-use Rattle.cr_base.specs.Phases.{is_phase}
+use Rattle.cr_base.specs.Phases.{committee_reads_from, is_phase}
 use Rattle.cr_base.specs.Words.{is_member}
 use Rattle.cr_policy.specs.Part as part
 use Rattle.cr_policy.specs.Part.{Part, whole, own_parts}
@@ -330,8 +330,8 @@ position-same u at at' e other around alike = λ i. record {
   first = none_alike-same u e other alike at.before at'.before around.before i;
   last = none_alike-same u e other alike at.after at'.after around.after i;
   last_before_response = not (opened Response i) && none_before Response i;
-  last_before_discussion = not (opened Discussion i) && none_before Discussion i;
-  from_discussion = opened Discussion i;
+  last_before_discussion = not (opened committee_reads_from i) && none_before committee_reads_from i;
+  from_discussion = opened committee_reads_from i;
 }
   where
     opened : (first : Phase) → list_any (opens_at first) at.before ≡ list_any (opens_at first) at'.before

@@ -5,7 +5,7 @@ use Rattle.std.proofs.Common.{◌&&◌, eqb, arith, Option, Some, None, Result, 
 use Rattle.std.specs.Prelude.{unwrap_or, is_some, not, nat_le, nat_lt}
 use Rattle.std.specs.List.{list_any}
 use Rattle.std.specs.Option.{option_map}
-use Rattle.std.proofs.lemmas.Bool.{and_parts, not-false, or_left, or_right, true≢false}
+use Rattle.std.proofs.lemmas.Bool.{and_parts, not-false, or_left, or_right, true≢false, and_from}
 use Rattle.std.proofs.lemmas.Bool.Decides.{nat_tests}
 use Rattle.cr_base.specs.declared.command.Call.{Call}
 use Rattle.cr_base.specs.declared.entry.Entry.TheVariants as entries
@@ -45,6 +45,7 @@ use Rattle.cr_base.specs.Sources.{Facts, Shown, role_among, has_paper, paper_nam
 use Rattle.cr_base.specs.Sources.{standing_at}
 use Rattle.cr_base.specs.Sources.{is_accepted_in, is_late, facts_of_tables, shown_in_tables}
 use Rattle.cr_base.proofs.CheckLaws.{NoneBroken, judged-behind, asked-behind}
+use Rattle.cr_base.proofs.Small.{and_not_and_from}
 use Rattle.cr_history.specs.Invariants.{Invariants}
 use Rattle.cr_history.specs.Laws.{AreTold, AreFormsTold}
 use Rattle.cr_policy.specs.View.{view}
@@ -95,11 +96,7 @@ module _ (by : Standing) (drawn : Drawn) where
   told-member h b =
       or_left (by.author || (is_member by.role && begun)) (is_clear_external by && begun)
       (or_right by.author (is_member by.role && begun)
-      (both (is_member by.role) begun (not-false (is_member by.role) h) b))
-    where
-      both : (x y : Bool) → x ≡ true → y ≡ true → (x && y) ≡ true
-      both true y hx hy = hy
-      both false y hx hy = hx
+      (and_from (is_member by.role) begun (not-false (is_member by.role) h) b))
 
   -- and that of an external in no conflict with it, too
   told-admitted : not (is_admitted by) ≡ false → by.conflicted ≡ false → begun ≡ true → gets_withdrawn by ≡ true
@@ -185,10 +182,7 @@ module _ (by : Standing) (drawn : Drawn) where
 
   -- and who is invited to the paper
   told-conflicts : not (is_chair by.role) ≡ false → by.conflicted ≡ false → begun ≡ true → gets_conflicts by ≡ true
-  told-conflicts h clear b = all (is_chair by.role) by.conflicted begun (not-false (is_chair by.role) h) clear b
-    where
-      all : (chair clash b : Bool) → chair ≡ true → clash ≡ false → b ≡ true → ((chair && not clash) && b) ≡ true
-      all chair clash b h1 h2 h3 = grind arith
+  told-conflicts h clear b = and_not_and_from (is_chair by.role) by.conflicted begun (not-false (is_chair by.role) h) clear b
 
   -- this is asked only behind those that have let through one whom the view shows who is
   off-author : (withdrawn herself : Bool) (role : Role) (x y clash clash' reviews reviews' outside outside' : Bool)

@@ -19,7 +19,7 @@ use Rattle.cr_base.specs.declared.reply.Reply.{Reply}
 use Rattle.cr_base.specs.declared.reply.Reply.TheVariants as replies
 use Rattle.cr_base.specs.declared.reply.Rule.{Rule}
 use Rattle.cr_base.specs.declared.reply.Rule.TheVariants as rules
-use Rattle.cr_base.specs.declared.search.Step.{Step}
+use Rattle.cr_base.specs.declared.search.Node.{Node}
 use Rattle.cr_base.specs.declared.standing.Standing.{Standing}
 use Rattle.cr_base.specs.Accounts.{lines_of}
 use Rattle.cr_base.specs.Checks.{Check, ◌breaks◌, judged, reads_freely}
@@ -343,11 +343,11 @@ module _ (u : Option ℕ) (H : History) (kept : Invariants H) (told : AreTold H)
     responded = tells_response (reply_or_rule (response-same (Some p) i));
   }
 
-  found-same : (search : List Step) → found_by facts shown u search ≡ found_by facts tabled u search
+  found-same : (search : List Node) → found_by facts shown u search ≡ found_by facts tabled u search
   found-same search = λ i. map (λ (p : ℕ). found_paper p (told-same p i))
       (filter (λ (p : ℕ). is_found (told-same p i) search) facts.papers)
 
-  search-same : (search : List Step) (only_count : Bool)
+  search-same : (search : List Node) (only_count : Bool)
       → search_told facts shown u search only_count ≡ search_told facts tabled u search only_count
   search-same search true = ap (λ (found : List FoundPaper). replies.Count (length found)) (found-same search)
   search-same search false = ap (λ (found : List FoundPaper). replies.Found found) (found-same search)

@@ -4,6 +4,7 @@ use Rattle.std.proofs.Common.{◌≡◌, ℕ, Bool, true, false, [], ◌∷◌, 
 use Rattle.std.proofs.Common.{arith}
 use Rattle.std.specs.Prelude.{not}
 use Rattle.std.specs.List.{flat_map}
+use Rattle.std.proofs.lemmas.Bool.{or_left}
 use Rattle.cr_base.specs.declared.entry.Entry.{Entry}
 use Rattle.cr_base.specs.declared.entry.Entry.TheVariants.{Submitted, Revised}
 use Rattle.cr_base.specs.declared.entry.Stamped.{Stamped}
@@ -23,7 +24,7 @@ use Rattle.cr_policy.specs.View.{view, is_seen}
 use Rattle.cr_policy.specs.ViewFacts.{author_seen, title_seen, abstract_seen, upload_seen, withdrawal_seen}
 use Rattle.cr_policy.specs.ViewFacts.{title_in_view, abstract_in_view, authors_in_view, is_conflict_on_in_view}
 use Rattle.cr_policy.specs.ViewFacts.{uploads_in_view, is_withdrawn_in_view}
-use Rattle.cr_policy.proofs.StandingLaws.{first_of, declared-seen_where}
+use Rattle.cr_policy.proofs.StandingLaws.{declared-seen_where}
 use Rattle.cr_policy.proofs.Walk.{is_nothing-append, fold_last, fold_all}
 use Rattle.cr_policy.proofs.Tells.{passes, names_author, author_tells, title_tells, abstract_tells, upload_tells}
 use Rattle.cr_policy.proofs.Tells.{withdrawal_tells, author_value, title_value, abstract_value, upload_value}
@@ -110,7 +111,7 @@ pub uploads-seen_by_author : (u : Option ℕ) (p : ℕ) (H : History) → is_aut
 uploads-seen_by_author u p H h =
     fold_all (reader u H) (upload_seen p) (λ (e : Stamped). upload_told p e.entry) (passes part.content (reader u H))
     (upload_tells (reader u H) p)
-    (λ at e. upload_value (reader u H) at p (λ stamp more version content. first_of (is_author u p H) _ h) e) [] H
+    (λ at e. upload_value (reader u H) at p (λ stamp more version content. or_left (is_author u p H) _ h) e) [] H
 
 -- of what others who are told see of it, the last is the last
 last_upload-seen : (u : Option ℕ) (p : ℕ) (H : History)

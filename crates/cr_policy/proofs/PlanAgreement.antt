@@ -6,7 +6,7 @@ use Rattle.std.proofs.Common.{arith, Option, Some, None}
 use Rattle.std.specs.Prelude.{map, filter, find, not, nat_le, is_some}
 use Rattle.std.specs.List.{flat_map, list_any}
 use Rattle.std.specs.Option.{option_map_or}
-use Rattle.std.proofs.lemmas.Bool.{and_parts, not-false}
+use Rattle.std.proofs.lemmas.Bool.{and_parts, not-false, and_from}
 use Rattle.cr_base.specs.declared.reply.AccountLine.{AccountLine}
 use Rattle.cr_base.specs.declared.reply.Reply.{Reply}
 use Rattle.cr_base.specs.declared.reply.Rule.TheVariants as rules
@@ -65,11 +65,8 @@ module _ (u : Option ℕ) (H : History) (told : AreTold H) (forms : AreFormsTold
     module _ (serves : is_chair here.role ≡ true) (begun : members_see_papers here.phase ≡ true) where
       -- what a chair in no conflict with a paper is told of it
       told-clear : (p : ℕ) → Clear p → gets_conflicts (to p) ≡ true
-      told-clear p clear = both (is_clear_chair (to p)) (members_see_papers here.phase)
+      told-clear p clear = and_from (is_clear_chair (to p)) (members_see_papers here.phase)
           (clear_chair u H told forms serves begun p clear) begun
-        where
-          both : (k b : Bool) → k ≡ true → b ≡ true → (k && b) ≡ true
-          both k b hk hb = grind arith
 
       authors-same : (p : ℕ) → Clear p → shown.authors p ≡ tabled.authors p
       authors-same p clear =

@@ -4,7 +4,7 @@ use Rattle.std.proofs.Common.{◌≡◌, ℕ, Bool, true, false, List, [], ◌�
 use Rattle.std.proofs.Common.{Option, Some, append_assoc, append-nil}
 use Rattle.std.specs.Prelude.{not}
 use Rattle.std.specs.List.{flat_map, list_any}
-use Rattle.std.proofs.lemmas.Bool.{or_parts, true≢false}
+use Rattle.std.proofs.lemmas.Bool.{or_parts, true≢false, or_left}
 use Rattle.std.proofs.lemmas.List.Concat.{flat_map-append}
 use Rattle.std.proofs.lemmas.List.Folds.{list_any-append}
 use Rattle.cr_base.specs.declared.entry.Entry.{Entry}
@@ -29,7 +29,6 @@ use Rattle.cr_policy.specs.HiddenPayload.{through}
 use Rattle.cr_policy.proofs.HiddenLaws.{hidden_payload, where_wrote, MadeAlike, wrote-rows, seen_by}
 use Rattle.cr_policy.proofs.InviteTells.{invite_kept, invite_tells}
 use Rattle.cr_policy.proofs.RemovedRows.{moved-rows, moved-ahead, moved-behind, unseen-opens}
-use Rattle.cr_policy.proofs.StandingLaws.{first_of}
 use Rattle.cr_policy.proofs.Tells.{phase_tells, mode_tells, role_tells, author_tells, author_value, conflict_tells}
 use Rattle.cr_policy.proofs.Tells.{conflict_value}
 
@@ -111,7 +110,7 @@ module _ (u : Option ℕ) (before after : History) (gone : Stamped) where
         ap (last_or false)
         (told-without (λ (e : Stamped). conflict_told u p e.entry) before after gone
         (sym (conflict_value (reader u with_it) there u p gone
-        (λ stamp more user on hers. first_of (is_number u user) _ hers))
+        (λ stamp more user on hers. or_left (is_number u user) _ hers))
         ∙ sym (conflict_tells (reader u with_it) u p there gone)
         ∙ ap (flat_map (conflict_seen u p)) nothing))
 
@@ -120,8 +119,8 @@ module _ (u : Option ℕ) (before after : History) (gone : Stamped) where
         ap (last_or false)
         (told-without (λ (e : Stamped). invite_told u p e.entry) before after gone
         (sym (invite_kept (reader u with_it) there u p (record {
-          invited = λ stamp more user hers. first_of (is_number u user) _ hers;
-          uninvited = λ stamp more user hers. first_of (is_number u user) _ hers;
+          invited = λ stamp more user hers. or_left (is_number u user) _ hers;
+          uninvited = λ stamp more user hers. or_left (is_number u user) _ hers;
         }) gone)
         ∙ sym (invite_tells (reader u with_it) u p there gone)
         ∙ ap (flat_map (invite_seen u p)) nothing))
@@ -131,8 +130,8 @@ module _ (u : Option ℕ) (before after : History) (gone : Stamped) where
     authors-without p h =
         told-without (λ (e : Stamped). author_told p e.stamp.maker e.entry) before after gone
         (sym (author_value (reader u with_it) there p (record {
-          submitted = λ stamp more title abstract. first_of (is_author u p with_it) _ h;
-          coauthor = λ stamp more user. first_of (is_author u p with_it) _ h;
+          submitted = λ stamp more title abstract. or_left (is_author u p with_it) _ h;
+          coauthor = λ stamp more user. or_left (is_author u p with_it) _ h;
         }) gone)
         ∙ sym (author_tells (reader u with_it) p there gone)
         ∙ ap (flat_map (author_seen p)) nothing)

@@ -13,11 +13,12 @@ use Rattle.cr_base.specs.declared.entry.Entry.TheVariants.{PhaseSet, Submitted, 
 use Rattle.cr_base.specs.declared.entry.Stamp.{Stamp}
 use Rattle.cr_base.specs.declared.entry.Stamped.{Stamped}
 use Rattle.cr_base.specs.declared.words.Phase.{Phase}
-use Rattle.cr_base.specs.declared.words.Phase.TheVariants.{Response, Discussion}
+use Rattle.cr_base.specs.declared.words.Phase.TheVariants.{Response}
 use Rattle.cr_base.specs.Lists.{given, is_nothing, until}
 use Rattle.cr_base.specs.Drawn.{stamped}
 use Rattle.cr_base.specs.History.{History, opens, title_told, upload_told, form_told, decision_told}
 use Rattle.cr_base.specs.Page.{is_clear_chair, is_clear_external, reads_paper}
+use Rattle.cr_base.specs.Phases.{committee_reads_from}
 use Rattle.cr_base.specs.Phases.{members_see_papers, authors_read_early_reviews, authors_read_reviews}
 use Rattle.cr_base.specs.Phases.{authors_read_decisions}
 use Rattle.cr_history.proofs.ListCuts.{until-append, until-before}
@@ -481,7 +482,7 @@ moved-ahead r b between post e gone unseen = record {
       (stands-last apart (none_alike e.entry between) (none_alike e.entry post) (none_alike gone.entry post)
       (none_alike-alike e.entry gone post)));
   response = early Response (list_any (opens_at Response) between) refl;
-  early = early Discussion (list_any (opens_at Discussion) between) refl;
+  early = early committee_reads_from (list_any (opens_at committee_reads_from) between) refl;
   late = refl;
 }
   where
@@ -568,8 +569,8 @@ moved-behind r front between post e gone unseen = record {
       (none_alike-alike e.entry gone front)));
   last = stands-still apart _ _;
   response = early Response;
-  early = early Discussion;
-  late = opened Discussion;
+  early = early committee_reads_from;
+  late = opened committee_reads_from;
 }
   where
     apart : Bool

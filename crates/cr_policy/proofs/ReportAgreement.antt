@@ -6,7 +6,7 @@ use Rattle.std.proofs.Common.{◌∙◌, arith, Option, Some, None, Result, Ok}
 use Rattle.std.specs.Prelude.{map, filter, not, nat_le, unwrap_or}
 use Rattle.std.specs.List.{flat_map, AllByRecursion}
 use Rattle.std.specs.Option.{option_map, option_and_then}
-use Rattle.std.proofs.lemmas.Bool.{not-false}
+use Rattle.std.proofs.lemmas.Bool.{not-false, and_from}
 use Rattle.std.proofs.lemmas.Bool.Decides.{nat_tests}
 use Rattle.cr_base.specs.declared.reply.AccountLine.{AccountLine}
 use Rattle.cr_base.specs.declared.reply.Reply.{Reply}
@@ -18,14 +18,14 @@ use Rattle.cr_base.specs.declared.review.ReviewLine.{ReviewLine}
 use Rattle.cr_base.specs.declared.standing.Standing.{Standing}
 use Rattle.cr_base.specs.declared.words.Decision.{Decision}
 use Rattle.cr_base.specs.declared.words.Kind.TheVariants.{Primary, Secondary, Pc}
-use Rattle.cr_base.specs.declared.words.Phase.TheVariants.{Discussion, Notification}
 use Rattle.cr_base.specs.Answering.{review_told}
 use Rattle.cr_base.specs.Checks.{judged}
 use Rattle.cr_base.specs.History.{History, SeatTold, FormTold}
 use Rattle.cr_base.specs.Labels.{by_labels, most_labels}
 use Rattle.cr_base.specs.Lists.{listed, last, is_number, total}
 use Rattle.cr_base.specs.Page.{is_clear_member, is_clear_chair, is_clear_external, shows_reviewer, where_told}
-use Rattle.cr_base.specs.Phases.{phase_rank, is_from, members_see_papers, chairs_see_reviewers, letters_are_sent}
+use Rattle.cr_base.specs.Phases.{phase_rank, members_see_papers, chairs_see_reviewers, letters_are_sent}
+use Rattle.cr_base.specs.Phases.{members_read_reviews, members_read_decisions, authors_read_decisions}
 use Rattle.cr_base.specs.Reports.{report_checks, report_told, is_clear_of, clear_papers, open_papers, title_by, space}
 use Rattle.cr_base.specs.Reports.{line_end, in_four, to_left, paper_mark, papers_end, papers_told, last_scores}
 use Rattle.cr_base.specs.Reports.{scores_line, scores_told, held, is_seat_of_kind, load_line, load_told, decision_word}
@@ -174,7 +174,7 @@ module _ (u : Option ℕ) (H : History) (told : AreTold H) (forms : AreFormsTold
 
     -- ---- what those in no conflict with a paper are told from the discussion on
 
-    module _ (discussed : is_from Discussion here.phase ≡ true) where
+    module _ (discussed : members_read_reviews here.phase ≡ true) where
       scores-of : (p : ℕ) → IsClear p → last_scores shown p ≡ last_scores tabled p
       scores-of p clear = let each = of in λ i. by_labels (λ (o : ℕ). each o i) most_labels
         where
@@ -210,12 +210,13 @@ module _ (u : Option ℕ) (H : History) (told : AreTold H) (forms : AreFormsTold
           same : (p : ℕ) → IsClear p → line shown p ≡ line tabled p
           same p clear = let scores = scores-of p clear in λ i. scores_line p (scores i) (title-same p i)
 
+    module _ (decided_told : members_read_decisions here.phase ≡ true) where
       decision-same : (p : ℕ) → IsClear p → decision_by facts shown p ≡ decision_by facts tabled p
       decision-same p clear =
           decision_by-tables u H told p
-          (gets (is_member here.role) (to p).conflicted (is_from Discussion here.phase)
-          ((to p).author && is_from Notification here.phase) (facts.accepted p)
-          serves clear discussed)
+          (gets (is_member here.role) (to p).conflicted (members_read_decisions here.phase)
+          ((to p).author && authors_read_decisions here.phase) (facts.accepted p)
+          serves clear decided_told)
         where
           gets : (m c d a accepted : Bool) → m ≡ true → not c ≡ true → d ≡ true
               → (((m && not c) && d) || a || accepted) ≡ true
@@ -260,11 +261,8 @@ module _ (u : Option ℕ) (H : History) (told : AreTold H) (forms : AreFormsTold
 
     seats-same : (p : ℕ) → IsClear p → shown.reviewers p ≡ tabled.reviewers p
     seats-same p clear =
-        seats-tables u H told p (both (is_clear_chair (to p)) (chairs_see_reviewers here.phase) (clear_chair p clear)
+        seats-tables u H told p (and_from (is_clear_chair (to p)) (chairs_see_reviewers here.phase) (clear_chair p clear)
         begun)
-      where
-        both : (k b : Bool) → k ≡ true → b ≡ true → (k && b) ≡ true
-        both k b hk hb = grind arith
 
     held-same : (user : ℕ) (test test' : ℕ → SeatTold → Bool)
         → ((p : ℕ) → IsClear p → (seat : SeatTold) → test p seat ≡ test' p seat)
@@ -321,7 +319,8 @@ module _ (u : Option ℕ) (H : History) (told : AreTold H) (forms : AreFormsTold
     letter_decision : decision_by facts shown p ≡ decision_by facts tabled p
     letter_decision =
         decision_by-tables u H told p
-        (gets (is_clear_member (to p) && is_from Discussion here.phase) (to p).author (is_from Notification here.phase)
+        (gets (is_clear_member (to p) && members_read_decisions here.phase) (to p).author
+        (authors_read_decisions here.phase)
         (facts.accepted p) author notified)
       where
         gets : (m a n accepted : Bool) → a ≡ true → n ≡ true → (m || (a && n) || accepted) ≡ true
@@ -366,8 +365,8 @@ module _ (u : Option ℕ) (H : History) (told : AreTold H) (forms : AreFormsTold
   answered text = Ok (replies.Report text)
 
   -- a later phase comes behind the bidding, and a chair is a member
-  begun_by : (n : ℕ) → nat_le 5 n ≡ true → nat_le 2 n ≡ true
-  begun_by n h = grind (arith, nat_tests)
+  begun_by : (first n : ℕ) → nat_le 2 first ≡ true → nat_le first n ≡ true → nat_le 2 n ≡ true
+  begun_by first n behind h = grind (arith, nat_tests)
 
   -- each report by any user's view is the one by the tables, where she may have it
   pub report-tables : (report : Report)
@@ -382,9 +381,9 @@ module _ (u : Option ℕ) (H : History) (told : AreTold H) (forms : AreFormsTold
       judged-behind (report_checks facts reports.Scores) [] [] (replies.Report (scores_told facts shown))
       (replies.Report (scores_told facts tabled))
       (λ none.
-      let discussed = not-false (is_from Discussion here.phase) none.1.0 in
-      ap answered (scores-same (not-false (is_member here.role) none.0) (begun_by (phase_rank here.phase) discussed)
-      discussed))
+      let discussed = not-false (members_read_reviews here.phase) none.1.0 in
+      ap answered (scores-same (not-false (is_member here.role) none.0)
+      (begun_by _ (phase_rank here.phase) refl discussed) discussed))
   report-tables reports.Load =
       judged-behind (report_checks facts reports.Load) [] [] (replies.Report (load_told facts shown))
       (replies.Report (load_told facts tabled))
@@ -394,9 +393,9 @@ module _ (u : Option ℕ) (H : History) (told : AreTold H) (forms : AreFormsTold
       judged-behind (report_checks facts reports.Decisions) [] [] (replies.Report (decisions_told facts shown))
       (replies.Report (decisions_told facts tabled))
       (λ none.
-      let discussed = not-false (is_from Discussion here.phase) none.1.0 in
-      ap answered (decisions-same (not-false (is_member here.role) none.0) (begun_by (phase_rank here.phase) discussed)
-      discussed))
+      let decided_told = not-false (members_read_decisions here.phase) none.1.0 in
+      ap answered (decisions-same (not-false (is_member here.role) none.0)
+      (begun_by _ (phase_rank here.phase) refl decided_told) decided_told))
   report-tables (reports.Letter None) = refl
   report-tables (reports.Letter (Some p)) =
       judged-behind (report_checks facts (reports.Letter (Some p))) [] [] (replies.Report (letter_told facts shown p))

@@ -28,7 +28,7 @@ use Rattle.cr_base.specs.Lists.{is_number}
 use Rattle.cr_base.specs.Retries.{KeptCall, kept_call, kept_of}
 use Rattle.cr_base.specs.Sources.{name_told_by}
 use Rattle.cr_base.specs.Rows.{key_mark}
-use Rattle.cr_base.proofs.ListLaws.{turned}
+use Rattle.cr_base.proofs.Small.{eqb-swap}
 use Rattle.cr_policy.specs.Laws.{KeptFromView}
 use Rattle.cr_policy.specs.Part as part
 use Rattle.cr_policy.specs.Part.{Part, own_parts}
@@ -227,7 +227,7 @@ lines-kept : (user : ℕ) (H : History) (accounts : List AccountLine) (number : 
 lines-kept user H accounts number =
     map-filter (λ (e : Stamped). eqb e.stamp.maker user && has_number number e.stamp.key) (line_of accounts) H
     ∙ ap (λ (f : Stamped → List Line). flat_map f H)
-    (λ i e. only (turned e.stamp.maker user i && has_number number e.stamp.key) (line_of accounts e ∷ []))
+    (λ i e. only (eqb-swap e.stamp.maker user i && has_number number e.stamp.key) (line_of accounts e ∷ []))
 
 pub kept_from_view : KeptFromView
 kept_from_view u H number =

@@ -28,6 +28,7 @@ use Rattle.cr_base.specs.Sources.{Facts, Shown, standing_at, has_paper, name_in,
 use Rattle.cr_base.specs.Tables.{tables_of}
 use Rattle.cr_base.specs.Words.{is_member}
 use Rattle.cr_base.proofs.CheckLaws.{judged-behind}
+use Rattle.cr_base.proofs.Small.{and_not_from}
 use Rattle.cr_history.specs.Invariants.{IsRespondedInTime}
 use Rattle.cr_history.specs.Laws.{AreTold, AreFormsTold}
 use Rattle.cr_history.proofs.ReviewAgreement.{is_written-tables, last_form_of-tables}
@@ -181,9 +182,6 @@ module _ (u : Option ℕ) (H : History) (told : AreTold H) (p : ℕ) where
       (review_told-same by accounts (shows_reviewer by) (shown.assigned p o) (tabled.assigned p o) o
       (λ names. assigned-tables names o))
 
-  clear_of : (k c : Bool) → k ≡ true → c ≡ false → (k && not c) ≡ true
-  clear_of k c hk hc = grind arith
-
   -- the form of a label that an author is told is the same: the last from the notification on, and before it, where
   -- the response was opened, the last before that
   authors_form-same : AreFormsTold H → IsRespondedInTime H
@@ -218,7 +216,7 @@ module _ (u : Option ℕ) (H : History) (told : AreTold H) (p : ℕ) where
       let all = and_parts (is_member by.role) (members_read_reviews by.phase) hd in
       each-label _ _ (λ o.
       discussed-tables facts.accounts (shows_reviewer by) (shown.assigned p o) o forms
-      (clear_of (is_member by.role) by.conflicted all.0 (clear refl)) all.1
+      (and_not_from (is_member by.role) by.conflicted all.0 (clear refl)) all.1
       ∙ forms-same facts.accounts o (tabled.forms_discussed p o))
   reviews-same forms in_time false false ha hd notified clear = refl
 

@@ -12,7 +12,7 @@ use Rattle.cr_base.specs.declared.form.Form.{Form}
 use Rattle.cr_base.specs.declared.reply.AccountLine.{AccountLine}
 use Rattle.cr_base.specs.declared.review.ReviewLine.{ReviewLine}
 use Rattle.cr_base.specs.declared.standing.Standing.{Standing}
-use Rattle.cr_base.specs.declared.words.Phase.TheVariants.{Response, Discussion}
+use Rattle.cr_base.specs.declared.words.Phase.TheVariants.{Response}
 use Rattle.cr_base.specs.Answering.{review_told}
 use Rattle.cr_base.specs.Lists.{is_nothing, last, last_from, last_or, listed, since, until}
 use Rattle.cr_base.specs.Drawn.{stamped}
@@ -21,6 +21,7 @@ use Rattle.cr_base.specs.History.{whole_form}
 use Rattle.cr_base.specs.HistoryFacts.{standing_of, forms_of, last_form_of, early_form_of, had_response_of}
 use Rattle.cr_base.specs.HistoryFacts.{forms_discussed_of, own_forms_of, is_written}
 use Rattle.cr_base.specs.Page.{is_clear_member, is_clear_chair, where_told}
+use Rattle.cr_base.specs.Phases.{committee_reads_from}
 use Rattle.cr_base.specs.Phases.{members_read_reviews, authors_read_early_reviews, authors_read_reviews}
 use Rattle.cr_policy.specs.Part as part
 use Rattle.cr_policy.specs.Triggers.{Reader, reader, Around, position_of, reads_reviews, user_named, standing_to}
@@ -218,8 +219,8 @@ module _ (u : Option ℕ) (p : ℕ) (H : History) (accounts : List AccountLine) 
         last-same tell (flat_map (form_seen p o) (until discussion_seen (view u H)))
         (kept_until opens_discussion (passes part.score r) told [] H)
         (forms_of p o (until opens_discussion H))
-        (sights_until-as tell opens_discussion (passes part.score r) told r discussion_seen (opening_cuts r Discussion)
-        (form_seen p o)
+        (sights_until-as tell opens_discussion (passes part.score r) told r discussion_seen
+        (opening_cuts r committee_reads_from) (form_seen p o)
         (form_tells tell r p o shows-form) [] H)
         (last_from-kept_until opens_discussion (passes part.score r) told
         (λ at e opened none. kept_at at e true (sym none) (before (list_any opens_discussion at.before) opened)) None []
@@ -231,8 +232,8 @@ module _ (u : Option ℕ) (p : ℕ) (H : History) (accounts : List AccountLine) 
     later : map tell (flat_map (form_seen p o) (since discussion_seen (view u H)))
         ≡ map tell (forms_of p o (since opens_discussion H))
     later =
-        sights_since-as tell opens_discussion (passes part.score r) told r discussion_seen (opening_cuts r Discussion)
-        (form_seen p o)
+        sights_since-as tell opens_discussion (passes part.score r) told r discussion_seen
+        (opening_cuts r committee_reads_from) (form_seen p o)
         (form_tells tell r p o shows-form) [] H
         ∙ ap (map tell)
         (kept_since-all opens_discussion (passes part.score r) told

@@ -38,7 +38,7 @@ use Rattle.cr_policy.proofs.Walk.{map-flat_map, sights-all, fold_all}
 use Rattle.cr_policy.proofs.Tells.{passes, passes_both}
 use Rattle.cr_policy.proofs.SeatTells.{bid_tells, bid_value, unassigned_tells, unassigned_value, ShowsAssigned}
 use Rattle.cr_policy.proofs.SeatTells.{assigned_tells}
-use Rattle.cr_policy.proofs.StandingLaws.{first_of, invited-seen_where, seat-seen_where}
+use Rattle.cr_policy.proofs.StandingLaws.{invited-seen_where, seat-seen_where}
 
 -- ---- bids
 
@@ -53,7 +53,7 @@ bid-seen u v p H told =
     (λ stamp more value. both_true (clear _) (clear _)) e) [] H)
   where
     clear : (rest : Bool) → (gets_bids (standing_of u (Some p) H) || rest) ≡ true
-    clear rest = first_of (gets_bids (standing_of u (Some p) H)) rest told
+    clear rest = or_left (gets_bids (standing_of u (Some p) H)) rest told
 
 -- ---- seats
 
@@ -295,22 +295,22 @@ module _ (u : Option ℕ) (p : ℕ) (H : History) (accounts : List AccountLine) 
 pub assigned-seen : (u : Option ℕ) (p : ℕ) (H : History) → shows_reviewer (standing_of u (Some p) H) ≡ true
     → (o : ℕ) → assigned_under o (seats_in_view p (view u H)) ≡ assigned_under o (seats_of p H)
 assigned-seen u p H names o =
-    assigned-seen_where u p H [] (λ _. false) (first_of (shows_reviewer (standing_of u (Some p) H)) _ names) names o
+    assigned-seen_where u p H [] (λ _. false) (or_left (shows_reviewer (standing_of u (Some p) H)) _ names) names o
 
 -- so a clear chair sees how many labels were given from the bidding on
 pub labels-seen : (u : Option ℕ) (p : ℕ) (H : History) → gets_conflicts (standing_of u (Some p) H) ≡ true
     → length (seats_in_view p (view u H)) ≡ length (seats_of p H)
 labels-seen u p H told = labels-seen_where u p H [] (λ _. false)
-    (first_of (shows_reviewer (standing_of u (Some p) H)) _
-    (first_of _ _ (first_of (gets_conflicts (standing_of u (Some p) H)) _ told)))
+    (or_left (shows_reviewer (standing_of u (Some p) H)) _
+    (or_left _ _ (or_left (gets_conflicts (standing_of u (Some p) H)) _ told)))
 
 -- and all of each reviewer
 pub reviewers-seen_by_chair : (u : Option ℕ) (p : ℕ) (H : History) → gets_conflicts (standing_of u (Some p) H) ≡ true
     → reviewers_in_view p (view u H) ≡ reviewers_of p H
 reviewers-seen_by_chair u p H told =
     let by : Standing = standing_of u (Some p) H in
-    let names = first_of (shows_reviewer by) _ (first_of _ _ (first_of (gets_conflicts by) _ told)) in
-    reviewers-seen_whole u p H [] (λ _. false) names (first_of _ _ (first_of (gets_conflicts by) _ told))
+    let names = or_left (shows_reviewer by) _ (or_left _ _ (or_left (gets_conflicts by) _ told)) in
+    reviewers-seen_whole u p H [] (λ _. false) names (or_left _ _ (or_left (gets_conflicts by) _ told))
     (chair_clear by.role by.conflicted (and_parts (is_clear_chair by) (chairs_see_reviewers by.phase) told).0)
   where
     chair_clear : (role : Role) (c : Bool) → (is_chair role && not c) ≡ true → (is_member role && not c) ≡ true

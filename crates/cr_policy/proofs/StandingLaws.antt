@@ -5,6 +5,7 @@ use Rattle.std.proofs.Common.{length}
 use Rattle.std.specs.Prelude.{map, is_some, not}
 use Rattle.std.specs.Cmp.Derive.{both_true}
 use Rattle.std.specs.List.{list_any}
+use Rattle.std.proofs.lemmas.Bool.{or_left}
 use Rattle.cr_base.specs.declared.entry.Entry.TheVariants.{Conflict}
 use Rattle.cr_base.specs.declared.entry.Stamp.{Stamp}
 use Rattle.cr_base.specs.declared.entry.Stamped.{Stamped}
@@ -113,9 +114,6 @@ own_comments-seen u H =
     ap length (sights-all (reader u H) own_comment_seen (λ (e : Stamped). own_comment_told u e.stamp.maker e.entry)
     (own_comment_tells (reader u H)) [] H)
 
-pub first_of : (a rest : Bool) → a ≡ true → (a || rest) ≡ true
-first_of a rest h = ap (λ b. b || rest) h
-
 -- an author sees all authors of her paper
 authors-seen_by_author : (u : Option ℕ) (p : ℕ) (H : History) → is_author u p H ≡ true
     → authors_in_view p (view u H) ≡ authors_of p H
@@ -123,8 +121,8 @@ authors-seen_by_author u p H h =
     fold_all (reader u H) (author_seen p) (λ (e : Stamped). author_told p e.stamp.maker e.entry)
     (names_author (reader u H)) (author_tells (reader u H) p)
     (λ at e. author_value (reader u H) at p (record {
-      submitted = λ stamp more title abstract. first_of (is_author u p H) _ h;
-      coauthor = λ stamp more user. first_of (is_author u p H) _ h;
+      submitted = λ stamp more title abstract. or_left (is_author u p H) _ h;
+      coauthor = λ stamp more user. or_left (is_author u p H) _ h;
     }) e) [] H
 
 -- the reader is told exactly where she is an author
@@ -152,7 +150,7 @@ declared-seen_where u v p H shown =
 
 -- each entry on her own conflicts is shown a user; nobody has any
 declared-seen : (u : Option ℕ) (p : ℕ) (H : History) → is_conflict_on_in_view u p (view u H) ≡ is_conflict_on u p H
-declared-seen u p H = declared-seen_where u u p H (λ at stamp more user on hers. first_of (is_number u user) _ hers)
+declared-seen u p H = declared-seen_where u u p H (λ at stamp more user on hers. or_left (is_number u user) _ hers)
 
 -- ---- bids and seats
 
@@ -174,11 +172,11 @@ seat-seen_where u v p H shown =
 -- each entry by which she is assigned or unassigned is shown a user
 pub seat-seen : (u : Option ℕ) (p : ℕ) (H : History) → ordinal_in_view u p (view u H) ≡ ordinal_of u p H
 seat-seen u p H = seat-seen_where u u p H (λ at. record {
-  assigned = λ stamp more user kind ordinal hers. both_true (first_of (is_number u user) _ hers)
-      (first_of (is_number u user) _ hers);
+  assigned = λ stamp more user kind ordinal hers. both_true (or_left (is_number u user) _ hers)
+      (or_left (is_number u user) _ hers);
   unassigned =
-      λ stamp more user ordinal hers. both_true (first_of (is_number u user) _ hers)
-      (first_of (is_number u user) _ hers);
+      λ stamp more user ordinal hers. both_true (or_left (is_number u user) _ hers)
+      (or_left (is_number u user) _ hers);
 })
 
 conflicted-seen : (u : Option ℕ) (p : ℕ) (H : History) → is_conflicted_in_view u p (view u H) ≡ is_conflicted u p H
@@ -198,8 +196,8 @@ invited-seen_where u v p H shown =
 -- each entry on her own is shown a user
 invited-seen : (u : Option ℕ) (p : ℕ) (H : History) → is_invited_in_view u p (view u H) ≡ is_invited u p H
 invited-seen u p H = invited-seen_where u u p H (λ at. record {
-  invited = λ stamp more user hers. first_of (is_number u user) _ hers;
-  uninvited = λ stamp more user hers. first_of (is_number u user) _ hers;
+  invited = λ stamp more user hers. or_left (is_number u user) _ hers;
+  uninvited = λ stamp more user hers. or_left (is_number u user) _ hers;
 })
 
 external-seen : (u : Option ℕ) (p : ℕ) (H : History) → is_external_in_view u p (view u H) ≡ is_external u p H

@@ -1,6 +1,6 @@
 -- SPDX-License-Identifier: Apache-2.0 OR MIT
--- Judge and Answer: the judgement of a command and of a bulk, what becomes of them if they have a number, and the answer
--- to a query, computed from the caller's view only.
+-- Judge and Answer: the judgement of a command and of a bulk, what becomes of them if they have a number, and the
+-- answer to a query, computed from the caller's view only.
 use Rattle.std.specs.Prelude.{ℕ, Bool, true, false, ◌++◌, map, Option, Some, None, Result}
 use Rattle.cr_base.specs.declared.bulk.Broken.{Broken}
 use Rattle.cr_base.specs.declared.bulk.Broken.TheVariants as broken

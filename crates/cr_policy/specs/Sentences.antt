@@ -141,8 +141,8 @@ abbrev pub is_paper : ℕ → History → Bool
 is_paper p H = list_any (λ q. q == p) (papers_of H)
 
 -- the paper was submitted, and isn't withdrawn
-abbrev pub stands : ℕ → History → Bool
-stands p H = is_paper p H && not (is_withdrawn p H)
+abbrev pub is_live : ℕ → History → Bool
+is_live p H = is_paper p H && not (is_withdrawn p H)
 
 -- the decision is to accept; no decision isn't
 abbrev pub accepts : Option Decision → Bool

@@ -1,6 +1,6 @@
 -- SPDX-License-Identifier: Apache-2.0 OR MIT
--- The visibility policy, as a trigger table: which parts of an entry a reader is shown, judged at the end of the history
--- (the triggers and bounds of CoCon, CAV 2014).
+-- The visibility policy, as a trigger table: which parts of an entry a reader is shown, judged at the end of the
+-- history (the triggers and bounds of CoCon, CAV 2014).
 use Rattle.std.specs.Prelude.{ℕ, Bool, true, false, not, List, [], ◌∷◌, Option, Some, ◌&&◌, ◌||◌}
 use Rattle.std.specs.List.{list_any}
 use Rattle.cr_base.specs.declared.entry.Entry.{Entry}

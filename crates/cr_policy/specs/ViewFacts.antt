@@ -9,7 +9,7 @@ use Rattle.cr_base.specs.declared.entry.EntryKind.{EntryKind}
 use Rattle.cr_base.specs.declared.entry.EntryKind.TheVariants as kinds
 use Rattle.cr_base.specs.declared.words.Decision.{Decision}
 use Rattle.cr_base.specs.declared.words.Phase.{Phase}
-use Rattle.cr_base.specs.declared.words.Phase.TheVariants.{Setup, Bidding, Response, Discussion}
+use Rattle.cr_base.specs.declared.words.Phase.TheVariants.{Setup, Bidding, Response}
 use Rattle.cr_base.specs.declared.words.Mode.{Mode}
 use Rattle.cr_base.specs.declared.words.Mode.TheVariants.{Blind}
 use Rattle.cr_base.specs.declared.words.Role.{Role}
@@ -17,7 +17,7 @@ use Rattle.cr_base.specs.declared.words.Role.TheVariants.{Account}
 use Rattle.cr_base.specs.declared.reply.AccountLine.{AccountLine}
 use Rattle.cr_base.specs.declared.standing.Standing.{Standing}
 use Rattle.cr_base.specs.Lists.{listed, last, last_or, total, is_number, at_some, until, since}
-use Rattle.cr_base.specs.Phases.{is_phase}
+use Rattle.cr_base.specs.Phases.{committee_reads_from, is_phase}
 use Rattle.cr_base.specs.Rows.{kind_number}
 use Rattle.cr_base.specs.History.{Registration, Upload, BidTold, SeatTold, FormTold, CommentTold, TagTold}
 use Rattle.cr_base.specs.History.{deadline_given}
@@ -240,7 +240,7 @@ bidding_seen s = is_kind kinds.PhaseSet s && shows_phase Bidding s.phase
 
 -- the sighting sets the phase to the discussion
 abbrev pub discussion_seen : Sighting → Bool
-discussion_seen s = is_kind kinds.PhaseSet s && shows_phase Discussion s.phase
+discussion_seen s = is_kind kinds.PhaseSet s && shows_phase committee_reads_from s.phase
 
 -- the sighting sets the phase to the response
 abbrev pub opening_response_seen : Sighting → Bool

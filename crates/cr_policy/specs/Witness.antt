@@ -84,7 +84,7 @@ abbrev pub made_anonymous : List ℕ → List ℕ → History
 made_anonymous alice bob =
     two_registrations alice bob ++ stamped (stamp_by 1 morning None) false (ModeSet Anonymous) ∷ []
 
--- then alice sets the mode and opens the submission
+-- then alice opens the submission
 abbrev pub submission_opened : List ℕ → List ℕ → History
 submission_opened alice bob =
     made_anonymous alice bob ++ stamped (stamp_by 1 morning None) false (PhaseSet Submission) ∷ []
@@ -160,7 +160,7 @@ abbrev pub one_conflict : List ℕ → List ℕ → List ℕ → List ℕ → Hi
 one_conflict alice bob carol dave =
     two_members alice bob carol dave ++ stamped (stamp_by 2 morning None) false (Conflict 1 3 true) ∷ []
 
--- then there are two members and a conflict, and alice opens the bidding
+-- then alice opens the bidding
 abbrev pub bidding_opened : List ℕ → List ℕ → List ℕ → List ℕ → History
 bidding_opened alice bob carol dave =
     one_conflict alice bob carol dave ++ stamped (stamp_by 1 morning None) false (PhaseSet Bidding) ∷ []

@@ -1,6 +1,6 @@
 -- SPDX-License-Identifier: Apache-2.0 OR MIT
 -- Loads counted seat by seat are the counts of the report.
-use Rattle.std.proofs.Common.{ℕ, Bool, true, false, cond, eqb, ◌≡◌, ◌≤◌, ◌<◌, ◌+◌, ◌&&◌, List, [], ◌∷◌, ◌++◌}
+use Rattle.std.proofs.Common.{ℕ, Bool, true, false, cond, eqb, ◌≡◌, ◌≤◌, ◌<◌, ◌+◌, ◌&&◌, List, [], ◌∷◌, ◌++◌, zero-add}
 use Rattle.std.proofs.Common.{append_assoc, get_or, length, map, take, refl, sym, ap, ◌∙◌, arith, Some, suc}
 use Rattle.std.specs.Prelude.{filter, not}
 use Rattle.std.specs.List.{flat_map}
@@ -39,9 +39,6 @@ Counts part test = (written : Bool) (kind : Kind) (load : Load)
 
 plus-none : (n : ℕ) → n ≡ n + 0
 plus-none n = omega arith
-
-from-none : (n : ℕ) → 0 + n ≡ n
-from-none n = omega arith
 
 -- the four of them
 abbrev is_primary : Bool → Kind → Bool
@@ -204,7 +201,7 @@ module _ (t : Tables) (caller user : ℕ) (part : Load → ℕ) (test : Bool →
     held-is none =
         sum-papers (paper_numbers t.papers) no_load
         ∙ ap (λ (n : ℕ). n + total (map count (filter clear (paper_numbers t.papers)))) none
-        ∙ from-none (total (map count (filter clear (paper_numbers t.papers))))
+        ∙ zero-add (total (map count (filter clear (paper_numbers t.papers))))
         ∙ totals (filter clear (paper_numbers t.papers))
 
 -- ---- a line

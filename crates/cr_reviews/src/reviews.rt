@@ -17,7 +17,7 @@ ghost use Rattle.cr_reviews.specs.Under.{forms_by};
 use crate::forms::{Written, count_under, has_under, labels_of, last_of};
 use crate::labels::Labels;
 use cr_base::{Entry, Ordinal, PaperNo, Phase, Rule, Stamped, Standing, Steps, WrittenForm};
-use cr_kept::Files;
+use cr_kept::Cabinet;
 use std::alloc::{AllocError, Global};
 use std::marker::Model;
 use std::sync::ledger::Ledger;
@@ -32,7 +32,7 @@ use std::sync::ledger::Ledger;
 pub struct Reviews {
     alloc: Global,
     phase: Phase,
-    forms: Files<WrittenForm>,
+    forms: Cabinet<WrittenForm>,
 }
 
 impl Model for Reviews {
@@ -59,7 +59,7 @@ impl Reviews {
         Reviews {
             alloc,
             phase: Phase::Setup,
-            forms: Files::new(alloc),
+            forms: Cabinet::new(alloc),
         }
     }
 

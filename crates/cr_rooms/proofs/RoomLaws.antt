@@ -2,33 +2,27 @@
 -- Room for values of many numbers, such as those of papers or of users.
 use Rattle.std.proofs.Common.{ℕ, Bool, true, false, cond, ◌≡◌, ◌≤◌, ◌<◌, ◌+◌, List, [], ◌∷◌, ◌++◌, length, get_or, set}
 use Rattle.std.proofs.Common.{map, eqb, refl, subst, ap, ◌∙◌, arith, zero, suc, Option, Some, None}
-use Rattle.std.proofs.lemmas.Bool.Decides.{nat_tests}
 use Rattle.std.proofs.lemmas.List.Sums.{sum_by-append}
 use Rattle.std.specs.List.{filter_map, cons_option}
+use Rattle.cr_base.proofs.Small.{eqb-self, eqb-swap, eqb-suc}
 use Rattle.cr_rooms.specs.Rooms.{times, HasRoom, IsNoLess, IsOneLess}
 
 -- how often a number is among some, one by one
 times-first : (n m : ℕ) (ms : List ℕ) → times n (m ∷ ms) ≡ (0 + cond (eqb n m) 1 0) + times n ms
 times-first n m ms = sum_by-append (λ (k : ℕ). cond (eqb n k) 1 0) (m ∷ []) ms
 
-same : (n : ℕ) → eqb n n ≡ true
-same n = grind (arith, nat_tests)
-
-swap : (n m : ℕ) → eqb n m ≡ eqb m n
-swap n m = grind (arith, nat_tests)
-
 -- ---- a group: room for all of it is room for its first, and when that came in, there is room for the rest
 
 pub has-room-first : (number : ℕ) (numbers rooms : List ℕ) → HasRoom (number ∷ numbers) rooms
     → 0 < get_or rooms number 0
 has-room-first number numbers rooms has =
-    let there = times-first number number numbers ∙ ap (λ b. (0 + cond b 1 0) + times number numbers) (same number) in
+    let there = times-first number number numbers ∙ ap (λ b. (0 + cond b 1 0) + times number numbers) (eqb-self number) in
     omega (arith, there, has number)
 
 pub has-room-rest : (number : ℕ) (numbers old new : List ℕ) → HasRoom (number ∷ numbers) old → IsOneLess number old new
     → HasRoom numbers new
 has-room-rest number numbers old new has less n =
-    by (eqb number n) (times-first n number numbers ∙ ap (λ b. (0 + cond b 1 0) + times n numbers) (swap n number))
+    by (eqb number n) (times-first n number numbers ∙ ap (λ b. (0 + cond b 1 0) + times n numbers) (eqb-swap n number))
     (has n) (less n)
   where
     by : (b : Bool) → times n (number ∷ numbers) ≡ (0 + cond b 1 0) + times n numbers
@@ -47,9 +41,6 @@ has-room-kept numbers old new has keeps n = omega (arith, has n, keeps n)
 
 -- ---- rows by number, of which each has room for some more
 
-one-back : (i n : ℕ) → eqb i n ≡ eqb (suc i) (suc n)
-one-back i n = grind (arith, nat_tests)
-
 module _ {R : Type 0} (room : R → ℕ) where
   abbrev rooms : List R → List ℕ
   rooms rs = map room rs
@@ -62,7 +53,7 @@ module _ {R : Type 0} (room : R → ℕ) where
   one-less-row zero (q ∷ rs) d r le (suc n) = omega arith
   one-less-row (suc i) (q ∷ rs) d r le zero = omega arith
   one-less-row (suc i) (q ∷ rs) d r le (suc n) =
-      subst (λ b. get_or (rooms rs) n 0 ≤ get_or (rooms (set rs i r)) n 0 + cond b 1 0) (one-back i n)
+      subst (λ b. get_or (rooms rs) n 0 ≤ get_or (rooms (set rs i r)) n 0 + cond b 1 0) (eqb-suc i n)
       (one-less-row i rs d r le n)
 
   pub no-less-row : (i : ℕ) (rs : List R) (d r : R) → room (get_or rs i d) ≤ room r

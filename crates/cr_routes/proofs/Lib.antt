@@ -6,3 +6,4 @@ pub mod Spelling
 pub mod Walked
 pub mod Shares
 pub mod Resources
+pub mod AskedAt

@@ -2,9 +2,8 @@
 -- What the router finds is what the path's parts tell. The table is looked at by computing alone, in `good`,
 -- `spelt_by`, `placed`, `patterns` and `named`: another path changes nothing here.
 use Rattle.std.proofs.Common.{◌≡◌, ◌≢◌, ℕ, ◌≤◌, List, [], ◌∷◌, length, Bool, true, false, cond, ◌&&◌, nat_le, Option}
-use Rattle.std.proofs.Common.{Some, None, option_map, find, map, refl, sym, ap, ap₂, subst, ◌∙◌, IsTrue, IsUtf8, arith}
-use Rattle.std.proofs.lemmas.Bool.{and_parts, ne_eqb}
-use Rattle.std.proofs.lemmas.Bool.Decides.{nat_tests}
+use Rattle.std.proofs.Common.{Some, None, option_map, find, map, refl, sym, ap, ap₂, subst, ◌∙◌, IsTrue, IsUtf8}
+use Rattle.std.proofs.lemmas.Bool.{and_parts, ne_eqb, leb-true}
 use Rattle.matchit.proofs.OnLiterals.{matchit_on_literals}
 use Rattle.matchit.specs.Seek.{first}
 use Rattle.cr_routes.specs.declared.resource.Resource.{Resource}
@@ -56,11 +55,8 @@ walks : (t path : List ℕ) (r : Route) → r.pattern ≡ t → IsTrue (is_walke
 walks t path r e h fits =
     let all = and_parts (are_named t r.names && is_plain t) (nat_le (length t) 1000) h in
     let both = and_parts (are_named t r.names) (is_plain t) all.0 in
-    let few : length t ≤ 1000 = at_most (length t) 1000 all.1 in
+    let few : length t ≤ 1000 = leb-true (length t) 1000 all.1 in
     ap (λ (p : List ℕ). walked p r.text path r.names) e ∙ walked_took t path r.text r.names both.0 both.1 fits few
-  where
-    at_most : (n m : ℕ) → IsTrue (nat_le n m) → n ≤ m
-    at_most n m h = grind (arith, nat_tests)
 
 same_found : (rows : Rows) (lines : List (List ℕ × Resource)) (path : List ℕ) → IsTrue (are_spelt rows lines)
     → row_resources rows ≡ line_resources lines

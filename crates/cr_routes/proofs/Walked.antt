@@ -8,6 +8,7 @@ use Rattle.std.proofs.lemmas.Bool.Decides.{nat_tests}
 use Rattle.std.proofs.lemmas.List.{drop-drop, drop_more}
 use Rattle.std.proofs.lemmas.Str.{IsUtf8-nil, IsUtf8-take, IsUtf8-drop, IsCharBoundary-before_ascii}
 use Rattle.std.proofs.lemmas.Str.{IsCharBoundary-after_ascii}
+use Rattle.std.proofs.Math.Bool.{and-false}
 use Rattle.matchit.specs.Params.{walk, wild_from, wild_stop, part_of, after_token}
 use Rattle.matchit.specs.Rows.{param_token, catch_all_token}
 use Rattle.matchit.specs.Seek.{segment, has_slash}
@@ -203,10 +204,6 @@ at_parameter : (pattern text path t : List ℕ) (n : ℕ × ℕ) (names : Names)
 at_parameter pattern text path t n names token at e =
     ap (at_wild pattern text path n names) (ap (λ (l : List ℕ). wild_from l (length path) token at) e)
 
-and_false : (a : Bool) → (a && false) ≡ false
-and_false true = refl
-and_false false = refl
-
 not_less : (m n : ℕ) → n ≤ m → ltb m n ≡ false
 not_less m n h = grind (arith, nat_tests)
 
@@ -214,7 +211,7 @@ first_case : (a b c : Bool) (m n : ℕ) → a ≡ true → b ≡ true → c ≡ 
 first_case a b c m n h i j = rw (h, i, j) refl
 
 last_case : (a b c : Bool) (m n : ℕ) → c ≡ false → cond (a && b && c) m n ≡ n
-last_case a b c m n h = rw (h, and_false (a && b)) refl
+last_case a b c m n h = rw (h, and-false (a && b)) refl
 
 segment_of : (x : ℕ) (t : List ℕ) → IsTrue (is_next (x ∷ t)) → segment (x ∷ t) ≡ x ∷ []
 segment_of x t h = rw h refl

@@ -8,8 +8,8 @@ use Rattle.cr_routes.specs.declared.resource.Resource.TheVariants.{Papers, Paper
 use Rattle.cr_routes.specs.declared.resource.Resource.TheVariants.{Conflicts, Bid, Externals, External}
 use Rattle.cr_routes.specs.declared.resource.Resource.TheVariants.{Reviewers, Reviewer, Response}
 use Rattle.cr_routes.specs.declared.resource.Resource.TheVariants.{Review, Reviews, Comments, Tag, Decision, Bulk}
-use Rattle.cr_routes.specs.declared.resource.Resource.TheVariants.{PapersReport, ScoresReport}
-use Rattle.cr_routes.specs.declared.resource.Resource.TheVariants.{LoadReport, DecisionsReport, Letter, Plan}
+use Rattle.cr_routes.specs.declared.resource.Resource.TheVariants.{Report, Plan}
+use Rattle.cr_base.specs.declared.report.ReportKind.TheVariants as kinds
 
 -- each path, with its resource; a parameter is in braces. They are in the order in which the router keeps them: by
 -- their bytes, a path after those that it is the start of.
@@ -42,9 +42,9 @@ paths =
     (codes "/phase", Phase) ∷
     (codes "/plan", Plan) ∷
     (codes "/register", Register) ∷
-    (codes "/reports/decisions", DecisionsReport) ∷
-    (codes "/reports/letter/{p}", Letter) ∷
-    (codes "/reports/load", LoadReport) ∷
-    (codes "/reports/papers", PapersReport) ∷
-    (codes "/reports/scores", ScoresReport) ∷
+    (codes "/reports/decisions", Report kinds.Decisions) ∷
+    (codes "/reports/letter/{p}", Report kinds.Letter) ∷
+    (codes "/reports/load", Report kinds.Load) ∷
+    (codes "/reports/papers", Report kinds.Papers) ∷
+    (codes "/reports/scores", Report kinds.Scores) ∷
     (codes "/search", Search) ∷ []

@@ -3,7 +3,7 @@
 ghost use Rattle.std.specs.Prelude.{◌≡◌, ◌≤◌, length};
 
 use crate::method::Method;
-use cr_base::Ask;
+use cr_base::{Ask, Question, ReportKind, Task};
 
 /// A path that the server knows.
 #[derive(Clone, Copy, PartialEq, Eq)]
@@ -62,16 +62,9 @@ pub enum Resource {
     Search,
     /// `/assign`
     Bulk,
-    /// `/reports/papers`
-    PapersReport,
-    /// `/reports/scores`
-    ScoresReport,
-    /// `/reports/load`
-    LoadReport,
-    /// `/reports/decisions`
-    DecisionsReport,
-    /// `/reports/letter/{p}`: one part of any bytes, at least one, follows `/reports/letter/`.
-    Letter,
+    /// `/reports/` and the word of a kind, as `/reports/papers`; for a letter one part of any bytes, at least one,
+    /// follows `/reports/letter/`.
+    Report(ReportKind),
     /// `/plan`
     Plan,
 }
@@ -84,24 +77,20 @@ impl Resource {
         ensures { result ≡ route_at self Method.Get }
     {
         match self {
-            Resource::Accepted => Some(Ask::AcceptedPapers),
-            Resource::Accounts => Some(Ask::Accounts),
-            Resource::Deadlines => Some(Ask::Deadlines),
-            Resource::Phase => Some(Ask::Phase),
-            Resource::Paper => Some(Ask::Page),
-            Resource::Content => Some(Ask::Content),
-            Resource::Version => Some(Ask::Version),
-            Resource::Reviews => Some(Ask::Reviews),
-            Resource::Response => Some(Ask::Response),
-            Resource::Comments => Some(Ask::Comments),
-            Resource::Me => Some(Ask::Me),
-            Resource::Search => Some(Ask::Search),
-            Resource::PapersReport => Some(Ask::PapersReport),
-            Resource::ScoresReport => Some(Ask::ScoresReport),
-            Resource::LoadReport => Some(Ask::LoadReport),
-            Resource::DecisionsReport => Some(Ask::DecisionsReport),
-            Resource::Letter => Some(Ask::Letter),
-            Resource::Plan => Some(Ask::Plan),
+            Resource::Accepted => Some(Ask::Tell(Question::AcceptedPapers)),
+            Resource::Accounts => Some(Ask::Tell(Question::Accounts)),
+            Resource::Deadlines => Some(Ask::Tell(Question::Deadlines)),
+            Resource::Phase => Some(Ask::Tell(Question::Phase)),
+            Resource::Paper => Some(Ask::Tell(Question::Page)),
+            Resource::Content => Some(Ask::Tell(Question::Content)),
+            Resource::Version => Some(Ask::Tell(Question::Version)),
+            Resource::Reviews => Some(Ask::Tell(Question::Reviews)),
+            Resource::Response => Some(Ask::Tell(Question::Response)),
+            Resource::Comments => Some(Ask::Tell(Question::Comments)),
+            Resource::Me => Some(Ask::Tell(Question::Me)),
+            Resource::Search => Some(Ask::Tell(Question::Search)),
+            Resource::Report(kind) => Some(Ask::Report(kind)),
+            Resource::Plan => Some(Ask::Tell(Question::Plan)),
             _ => None,
         }
     }
@@ -112,28 +101,28 @@ impl Resource {
     {
         match (self, method) {
             (_, Method::Get | Method::Head) => self.read(),
-            (Resource::Register, Method::Post) => Some(Ask::Register),
-            (Resource::Deadlines, Method::Post) => Some(Ask::SetDeadline),
-            (Resource::Members, Method::Post) => Some(Ask::Name),
-            (Resource::Member, Method::Delete) => Some(Ask::Dismiss),
-            (Resource::Mode, Method::Post) => Some(Ask::SetMode),
-            (Resource::Phase, Method::Post) => Some(Ask::SetPhase),
-            (Resource::Papers, Method::Post) => Some(Ask::Submit),
-            (Resource::Paper, Method::Put) => Some(Ask::Revise),
-            (Resource::Paper, Method::Delete) => Some(Ask::Withdraw),
-            (Resource::Content, Method::Put) => Some(Ask::Upload),
-            (Resource::Conflicts, Method::Post) => Some(Ask::SetConflict),
-            (Resource::Bid, Method::Put) => Some(Ask::Bid),
-            (Resource::Reviewers, Method::Post) => Some(Ask::Assign),
-            (Resource::Reviewer, Method::Delete) => Some(Ask::Unassign),
-            (Resource::Externals, Method::Post) => Some(Ask::Invite),
-            (Resource::External, Method::Delete) => Some(Ask::Uninvite),
-            (Resource::Review, Method::Put) => Some(Ask::Review),
-            (Resource::Response, Method::Put) => Some(Ask::Respond),
-            (Resource::Comments, Method::Post) => Some(Ask::Comment),
-            (Resource::Tag, Method::Put) => Some(Ask::Tag),
-            (Resource::Tag, Method::Delete) => Some(Ask::Untag),
-            (Resource::Decision, Method::Put) => Some(Ask::Decide),
+            (Resource::Register, Method::Post) => Some(Ask::Give(Task::Register)),
+            (Resource::Deadlines, Method::Post) => Some(Ask::Give(Task::SetDeadline)),
+            (Resource::Members, Method::Post) => Some(Ask::Give(Task::Name)),
+            (Resource::Member, Method::Delete) => Some(Ask::Give(Task::Dismiss)),
+            (Resource::Mode, Method::Post) => Some(Ask::Give(Task::SetMode)),
+            (Resource::Phase, Method::Post) => Some(Ask::Give(Task::SetPhase)),
+            (Resource::Papers, Method::Post) => Some(Ask::Give(Task::Submit)),
+            (Resource::Paper, Method::Put) => Some(Ask::Give(Task::Revise)),
+            (Resource::Paper, Method::Delete) => Some(Ask::Give(Task::Withdraw)),
+            (Resource::Content, Method::Put) => Some(Ask::Give(Task::Upload)),
+            (Resource::Conflicts, Method::Post) => Some(Ask::Give(Task::SetConflict)),
+            (Resource::Bid, Method::Put) => Some(Ask::Give(Task::Bid)),
+            (Resource::Reviewers, Method::Post) => Some(Ask::Give(Task::Assign)),
+            (Resource::Reviewer, Method::Delete) => Some(Ask::Give(Task::Unassign)),
+            (Resource::Externals, Method::Post) => Some(Ask::Give(Task::Invite)),
+            (Resource::External, Method::Delete) => Some(Ask::Give(Task::Uninvite)),
+            (Resource::Review, Method::Put) => Some(Ask::Give(Task::Review)),
+            (Resource::Response, Method::Put) => Some(Ask::Give(Task::Respond)),
+            (Resource::Comments, Method::Post) => Some(Ask::Give(Task::Comment)),
+            (Resource::Tag, Method::Put) => Some(Ask::Give(Task::Tag)),
+            (Resource::Tag, Method::Delete) => Some(Ask::Give(Task::Untag)),
+            (Resource::Decision, Method::Put) => Some(Ask::Give(Task::Decide)),
             (Resource::Bulk, Method::Post) => Some(Ask::Bulk),
             _ => None,
         }
@@ -158,8 +147,7 @@ impl Resource {
             Resource::Tag => "DELETE, PUT",
             Resource::Accepted | Resource::Accounts | Resource::Me => "GET, HEAD",
             Resource::Version | Resource::Reviews | Resource::Search => "GET, HEAD",
-            Resource::PapersReport | Resource::ScoresReport | Resource::LoadReport => "GET, HEAD",
-            Resource::DecisionsReport | Resource::Letter | Resource::Plan => "GET, HEAD",
+            Resource::Report(_) | Resource::Plan => "GET, HEAD",
             Resource::Paper => "DELETE, GET, HEAD, PUT",
             Resource::Content | Resource::Response => "GET, HEAD, PUT",
             Resource::Phase | Resource::Deadlines | Resource::Comments => "GET, HEAD, POST",

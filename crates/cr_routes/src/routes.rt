@@ -6,6 +6,7 @@ ghost use Rattle.matchit.specs.Route.{parse_route};
 
 use crate::matched::{Matched, taken};
 use crate::resource::Resource;
+use cr_base::ReportKind;
 use matchit::{InsertError, Router};
 use std::alloc::{AllocError, Global};
 
@@ -38,11 +39,14 @@ static PATHS: [(&str, Resource); 33] = [
     ("/phase", Resource::Phase),
     ("/plan", Resource::Plan),
     ("/register", Resource::Register),
-    ("/reports/decisions", Resource::DecisionsReport),
-    ("/reports/letter/{p}", Resource::Letter),
-    ("/reports/load", Resource::LoadReport),
-    ("/reports/papers", Resource::PapersReport),
-    ("/reports/scores", Resource::ScoresReport),
+    (
+        "/reports/decisions",
+        Resource::Report(ReportKind::Decisions),
+    ),
+    ("/reports/letter/{p}", Resource::Report(ReportKind::Letter)),
+    ("/reports/load", Resource::Report(ReportKind::Load)),
+    ("/reports/papers", Resource::Report(ReportKind::Papers)),
+    ("/reports/scores", Resource::Report(ReportKind::Scores)),
     ("/search", Resource::Search),
 ];
 

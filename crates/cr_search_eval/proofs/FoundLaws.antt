@@ -5,7 +5,7 @@ use Rattle.std.proofs.Common.{refl, sym, ap, ◌∙◌}
 use Rattle.std.specs.Prelude.{filter, is_some, map, unwrap_or}
 use Rattle.std.proofs.lemmas.Bool.{true≢false}
 use Rattle.cr_base.specs.declared.found.FoundPaper.{FoundPaper}
-use Rattle.cr_base.specs.declared.search.Step.{Step}
+use Rattle.cr_base.specs.declared.search.Node.{Node}
 use Rattle.cr_base.specs.Answering.{found_by}
 use Rattle.cr_base.specs.Page.{gets_title, where_told}
 use Rattle.cr_base.specs.Papers.{paper_numbers, title_at}
@@ -30,7 +30,7 @@ those-same {A} test one other same (p ∷ ps) = by (test p) refl (those-same tes
 
 -- ---- one paper
 
-module _ (t : Tables) (user p : ℕ) (asked : Asked) (is : asked ≡ asked_of t user p) (search : List Step) where
+module _ (t : Tables) (user p : ℕ) (asked : Asked) (is : asked ≡ asked_of t user p) (search : List Node) where
   -- what is said of it as it is asked of
   found-at : (found : Bool) → found ≡ is_found (told_at t asked) search → found ≡ is_found (told_to t user p) search
   found-at found h = h ∙ ap (λ (a : Asked). is_found (told_at t a) search) is
@@ -44,7 +44,7 @@ module _ (t : Tables) (user p : ℕ) (asked : Asked) (is : asked ≡ asked_of t 
 
 -- ---- all of them
 
-module _ (t : Tables) (user : ℕ) (search : List Step) where
+module _ (t : Tables) (user : ℕ) (search : List Node) where
   -- of a paper that is found the last title is told
   found-titled : (p : ℕ) → is_found (told_to t user p) search ≡ true → titled t p ≡ found_paper p (told_to t user p)
   found-titled p is =

@@ -1,9 +1,9 @@
 -- SPDX-License-Identifier: Apache-2.0 OR MIT
--- Steps that spell a search.
+-- Nodes that spell a search.
 use Rattle.std.specs.Prelude.{◌≡◌, List}
-use Rattle.cr_base.specs.declared.search.Step.{Step}
-use Rattle.cr_base.specs.Search.{Tree, steps_of}
+use Rattle.cr_base.specs.declared.search.Node.{Node}
+use Rattle.cr_base.specs.Search.{Tree, nodes_of}
 
 -- they are those of a tree
-abbrev pub Spelled : List Step → Type 0
-Spelled steps = (t : Tree) × (steps ≡ steps_of t)
+abbrev pub Spelled : List Node → Type 0
+Spelled nodes = (t : Tree) × (nodes ≡ nodes_of t)

@@ -2,34 +2,34 @@
 -- The reader reads all that the grammar spells, within its limits.
 use Rattle.std.proofs.Common.{◌≡◌, ℕ, ◌+◌, ◌≤◌, List, [], ◌∷◌, ◌++◌, length, Option, Some, None, refl, sym, ap, ◌∙◌}
 use Rattle.std.proofs.Common.{append-nil, arith, add-zero, add_assoc}
-use Rattle.cr_base.specs.Search.{Tree, steps_of, all_steps}
-use Rattle.cr_base.specs.declared.search.Step.{Step}
-use Rattle.cr_base.specs.declared.search.Step.TheVariants as step
+use Rattle.cr_base.specs.Search.{Tree, nodes_of, all_nodes}
+use Rattle.cr_base.specs.declared.search.Node.{Node}
+use Rattle.cr_base.specs.declared.search.Node.TheVariants as node
 use Rattle.cr_search_parse.specs.Grammar.{Symbol, opens, closes, dash, word, Item, All, Any, term, added, dashed}
 use Rattle.cr_search_parse.specs.Grammar.{negated, grouped, one, beside, joined, sole, other, gap_symbols, and_word}
 use Rattle.cr_search_parse.specs.Grammar.{or_word, not_word, item_symbols, all_symbols, any_symbols, item_tree}
 use Rattle.cr_search_parse.specs.Grammar.{all_tree, any_tree, item_depth, all_depth, any_depth, item_terms, all_terms}
 use Rattle.cr_search_parse.specs.Grammar.{any_terms, IsQuery}
 use Rattle.cr_search_parse.specs.Reading.{Level, State, Next, first, ended, wanted, touching, start, levels_depth}
-use Rattle.cr_search_parse.specs.Reading.{denied, with_operand, level_steps, after_symbols, steps_read}
-use Rattle.cr_search_parse.proofs.TreeLaws.{with_operand-steps_of}
+use Rattle.cr_search_parse.specs.Reading.{denied, with_operand, level_nodes, after_symbols, nodes_read}
+use Rattle.cr_search_parse.proofs.TreeLaws.{with_operand-nodes_of}
 use Rattle.cr_search_parse.proofs.ReaderLaws.{after_row, after_one, after_gaps, shallow, denied_more, after_word-term}
 
 -- a level for which no negation waits
-abbrev pub level_at : List Step → List Step → Level
+abbrev pub level_at : List Node → List Node → Level
 level_at alternatives items = record { alternatives = alternatives; items = items; negations = 0 }
 
 -- the level that alternatives make
 abbrev pub level_of : Any → Level
-level_of (sole a) = level_at [] (steps_of (all_tree a))
-level_of (other a before behind b) = level_at (steps_of (any_tree a)) (steps_of (all_tree b))
+level_of (sole a) = level_at [] (nodes_of (all_tree a))
+level_of (other a before behind b) = level_at (nodes_of (any_tree a)) (nodes_of (all_tree b))
 
-pub level_steps-level_of : (a : Any) → level_steps (level_of a) ≡ steps_of (any_tree a)
-level_steps-level_of (sole a) = refl
-level_steps-level_of (other a before behind b) = with_operand-steps_of step.Or (any_tree a) (steps_of (all_tree b))
+pub level_nodes-level_of : (a : Any) → level_nodes (level_of a) ≡ nodes_of (any_tree a)
+level_nodes-level_of (sole a) = refl
+level_nodes-level_of (other a before behind b) = with_operand-nodes_of node.Or (any_tree a) (nodes_of (all_tree b))
 
 -- a state by its parts
-abbrev pub state : List Level → List Step → List Step → ℕ → Next → ℕ → State
+abbrev pub state : List Level → List Node → List Node → ℕ → Next → ℕ → State
 state around alternatives items negations next terms =
     record {
       around = around;
@@ -39,35 +39,35 @@ state around alternatives items negations next terms =
     }
 
 -- one item behind those before
-pub with_operand-item : (s t : Tree) → with_operand step.And (steps_of s) (denied 0 (steps_of t)) ≡ steps_of s
-    ++ (steps_of t ++ (step.And (length (steps_of t)) ∷ []))
+pub with_operand-item : (s t : Tree) → with_operand node.And (nodes_of s) (denied 0 (nodes_of t)) ≡ nodes_of s
+    ++ (nodes_of t ++ (node.And (length (nodes_of t)) ∷ []))
 with_operand-item s t =
-    ap (with_operand step.And (steps_of s)) (append-nil (steps_of t)) ∙ with_operand-steps_of step.And s (steps_of t)
+    ap (with_operand node.And (nodes_of s)) (append-nil (nodes_of t)) ∙ with_operand-nodes_of node.And s (nodes_of t)
 
 -- the same as a state, with the terms of both
-item_more : (around : List Level) (alternatives : List Step) (s t : Tree) (a b c : ℕ)
-    → Some (state around alternatives (with_operand step.And (steps_of s) (denied 0 (steps_of t))) 0 ended (a + b + c))
-    ≡ Some (state around alternatives (steps_of s ++ (steps_of t ++ (step.And (length (steps_of t)) ∷ [])))
+item_more : (around : List Level) (alternatives : List Node) (s t : Tree) (a b c : ℕ)
+    → Some (state around alternatives (with_operand node.And (nodes_of s) (denied 0 (nodes_of t))) 0 ended (a + b + c))
+    ≡ Some (state around alternatives (nodes_of s ++ (nodes_of t ++ (node.And (length (nodes_of t)) ∷ [])))
     0 ended (a + (b + c)))
 item_more around alternatives s t a b c =
-    ap (λ (xs : List Step). Some (state around alternatives xs 0 ended (a + b + c))) (with_operand-item s t)
+    ap (λ (xs : List Node). Some (state around alternatives xs 0 ended (a + b + c))) (with_operand-item s t)
     ∙ ap
-    (λ (n : ℕ). Some (state around alternatives (steps_of s ++ (steps_of t ++ (step.And (length (steps_of t)) ∷ [])))
+    (λ (n : ℕ). Some (state around alternatives (nodes_of s ++ (nodes_of t ++ (node.And (length (nodes_of t)) ∷ [])))
     0 ended n)) (add_assoc a b c)
 
 -- alternatives behind those before
-other_more : (around : List Level) (a : Any) (items : List Step) (n m k : ℕ)
-    → Some (state around (level_steps (level_of a)) items 0 ended (n + m + k))
-    ≡ Some (state around (steps_of (any_tree a)) items 0 ended (n + (m + k)))
+other_more : (around : List Level) (a : Any) (items : List Node) (n m k : ℕ)
+    → Some (state around (level_nodes (level_of a)) items 0 ended (n + m + k))
+    ≡ Some (state around (nodes_of (any_tree a)) items 0 ended (n + (m + k)))
 other_more around a items n m k =
-    ap (λ (xs : List Step). Some (state around xs items 0 ended (n + m + k))) (level_steps-level_of a)
-    ∙ ap (λ (j : ℕ). Some (state around (steps_of (any_tree a)) items 0 ended j)) (add_assoc n m k)
+    ap (λ (xs : List Node). Some (state around xs items 0 ended (n + m + k))) (level_nodes-level_of a)
+    ∙ ap (λ (j : ℕ). Some (state around (nodes_of (any_tree a)) items 0 ended j)) (add_assoc n m k)
 
 mutual
-  reads-item : (i : Item) (around : List Level) (alternatives items : List Step) (negations : ℕ) (next : Next)
+  reads-item : (i : Item) (around : List Level) (alternatives items : List Node) (negations : ℕ) (next : Next)
       (terms : ℕ) → negations + levels_depth around + item_depth i ≤ 64 → terms + item_terms i ≤ 128
       → after_symbols (state around alternatives items negations next terms) (item_symbols i)
-      ≡ Some (state around alternatives (with_operand step.And items (denied negations (steps_of (item_tree i)))) 0
+      ≡ Some (state around alternatives (with_operand node.And items (denied negations (nodes_of (item_tree i)))) 0
       ended (terms + item_terms i))
   reads-item (term text t is) around alternatives items negations next terms low few =
       after_one (state around alternatives items negations next terms) _ (word text) []
@@ -75,15 +75,15 @@ mutual
   reads-item added around alternatives items negations next terms low few =
       ap
       (λ (n : ℕ).
-      Some (state around alternatives (with_operand step.And items (denied negations (steps_of (item_tree added))))
+      Some (state around alternatives (with_operand node.And items (denied negations (nodes_of (item_tree added))))
       0 ended n)) (sym (add-zero terms))
   reads-item (dashed i) around alternatives items negations next terms low few =
       after_one (state around alternatives items negations next terms) _ dash (item_symbols i)
       (shallow (state around alternatives items (negations + 1) touching terms) (omega arith))
       ∙ reads-item i around alternatives items (negations + 1) touching terms (omega arith) few
       ∙ ap
-      (λ (xs : List Step). Some (state around alternatives (with_operand step.And items xs) 0 ended
-      (terms + item_terms i))) (denied_more negations (steps_of (item_tree i)))
+      (λ (xs : List Node). Some (state around alternatives (with_operand node.And items xs) 0 ended
+      (terms + item_terms i))) (denied_more negations (nodes_of (item_tree i)))
   reads-item (negated n i) around alternatives items negations next terms low few =
       after_one (state around alternatives items negations next terms) _ (word not_word)
       (gap_symbols n ++ item_symbols i) (shallow (state around alternatives items (negations + 1) wanted terms)
@@ -91,8 +91,8 @@ mutual
       ∙ after_gaps (state around alternatives items (negations + 1) wanted terms) n (item_symbols i) refl
       ∙ reads-item i around alternatives items (negations + 1) wanted terms (omega arith) few
       ∙ ap
-      (λ (xs : List Step). Some (state around alternatives (with_operand step.And items xs) 0 ended
-      (terms + item_terms i))) (denied_more negations (steps_of (item_tree i)))
+      (λ (xs : List Node). Some (state around alternatives (with_operand node.And items xs) 0 ended
+      (terms + item_terms i))) (denied_more negations (nodes_of (item_tree i)))
   reads-item (grouped n a m) around alternatives items negations next terms low few =
       let level : Level = record { alternatives = alternatives; items = items; negations = negations } in
       after_one (state around alternatives items negations next terms) _ opens
@@ -105,33 +105,33 @@ mutual
       ∙ after_gaps (record { around = level ∷ around; level = level_of a; next = ended; terms = terms + any_terms a }) m
       (closes ∷ []) refl
       ∙ ap
-      (λ (xs : List Step). Some (state around alternatives (with_operand step.And items (denied negations xs)) 0 ended
-      (terms + any_terms a))) (level_steps-level_of a)
+      (λ (xs : List Node). Some (state around alternatives (with_operand node.And items (denied negations xs)) 0 ended
+      (terms + any_terms a))) (level_nodes-level_of a)
 
-  reads-all : (a : All) (around : List Level) (alternatives : List Step) (next : Next) (terms : ℕ)
+  reads-all : (a : All) (around : List Level) (alternatives : List Node) (next : Next) (terms : ℕ)
       → levels_depth around + all_depth a ≤ 64 → terms + all_terms a ≤ 128
       → after_symbols (state around alternatives [] 0 next terms) (all_symbols a)
-      ≡ Some (state around alternatives (steps_of (all_tree a)) 0 ended (terms + all_terms a))
+      ≡ Some (state around alternatives (nodes_of (all_tree a)) 0 ended (terms + all_terms a))
   reads-all (one i) around alternatives next terms low few =
       reads-item i around alternatives [] 0 next terms (omega arith) few
-      ∙ ap (λ (xs : List Step). Some (state around alternatives xs 0 ended (terms + item_terms i)))
-      (append-nil (steps_of (item_tree i)))
+      ∙ ap (λ (xs : List Node). Some (state around alternatives xs 0 ended (terms + item_terms i)))
+      (append-nil (nodes_of (item_tree i)))
   reads-all (beside a n i) around alternatives next terms low few =
       after_row _ _ (all_symbols a) (gap_symbols n ++ item_symbols i)
       (reads-all a around alternatives next terms (omega arith) (omega arith))
-      ∙ after_gaps (state around alternatives (steps_of (all_tree a)) 0 ended (terms + all_terms a)) n (item_symbols i)
+      ∙ after_gaps (state around alternatives (nodes_of (all_tree a)) 0 ended (terms + all_terms a)) n (item_symbols i)
       refl
-      ∙ reads-item i around alternatives (steps_of (all_tree a)) 0 ended (terms + all_terms a) (omega arith)
+      ∙ reads-item i around alternatives (nodes_of (all_tree a)) 0 ended (terms + all_terms a) (omega arith)
       (omega arith)
       ∙ item_more around alternatives (all_tree a) (item_tree i) terms (all_terms a) (item_terms i)
   reads-all (joined a n m i) around alternatives next terms low few =
       after_row _ _ (all_symbols a) (gap_symbols n ++ (word and_word ∷ (gap_symbols m ++ item_symbols i)))
       (reads-all a around alternatives next terms (omega arith) (omega arith))
-      ∙ after_gaps (state around alternatives (steps_of (all_tree a)) 0 ended (terms + all_terms a)) n
+      ∙ after_gaps (state around alternatives (nodes_of (all_tree a)) 0 ended (terms + all_terms a)) n
       (word and_word ∷ (gap_symbols m ++ item_symbols i)) refl
-      ∙ after_gaps (state around alternatives (steps_of (all_tree a)) 0 wanted (terms + all_terms a)) m (item_symbols i)
+      ∙ after_gaps (state around alternatives (nodes_of (all_tree a)) 0 wanted (terms + all_terms a)) m (item_symbols i)
       refl
-      ∙ reads-item i around alternatives (steps_of (all_tree a)) 0 wanted (terms + all_terms a) (omega arith)
+      ∙ reads-item i around alternatives (nodes_of (all_tree a)) 0 wanted (terms + all_terms a) (omega arith)
       (omega arith)
       ∙ item_more around alternatives (all_tree a) (item_tree i) terms (all_terms a) (item_terms i)
 
@@ -144,13 +144,13 @@ mutual
       (reads-any a around next terms (omega arith) (omega arith))
       ∙ after_gaps (record { around = around; level = level_of a; next = ended; terms = terms + any_terms a }) n
       (word or_word ∷ (gap_symbols m ++ all_symbols b)) refl
-      ∙ after_gaps (state around (level_steps (level_of a)) [] 0 wanted (terms + any_terms a)) m (all_symbols b) refl
-      ∙ reads-all b around (level_steps (level_of a)) wanted (terms + any_terms a) (omega arith) (omega arith)
-      ∙ other_more around a (steps_of (all_tree b)) terms (any_terms a) (all_terms b)
+      ∙ after_gaps (state around (level_nodes (level_of a)) [] 0 wanted (terms + any_terms a)) m (all_symbols b) refl
+      ∙ reads-all b around (level_nodes (level_of a)) wanted (terms + any_terms a) (omega arith) (omega arith)
+      ∙ other_more around a (nodes_of (all_tree b)) terms (any_terms a) (all_terms b)
 
--- the reader reads each query, and has its steps then
+-- the reader reads each query, and has its nodes then
 pub only : (symbols : List Symbol) (t : Option Tree) → IsQuery symbols t
-    → (s : State) × (after_symbols start symbols ≡ Some s) × (steps_read s ≡ Some (all_steps t))
+    → (s : State) × (after_symbols start symbols ≡ Some s) × (nodes_read s ≡ Some (all_nodes t))
 only symbols None (n, is) =
     (start, ap (after_symbols start) (is ∙ sym (append-nil (gap_symbols n))) ∙ after_gaps start n [] refl, refl)
 only symbols (Some t) (n, a, m, is, tree, low, few) = (
@@ -160,7 +160,7 @@ only symbols (Some t) (n, a, m, is, tree, low, few) = (
       ∙ after_row start last (any_symbols a) (gap_symbols m) (reads-any a [] first 0 (omega arith) (omega arith))
       ∙ ap (after_symbols last) (sym (append-nil (gap_symbols m)))
       ∙ after_gaps last m [] refl,
-  ap Some (level_steps-level_of a ∙ ap steps_of tree),
+  ap Some (level_nodes-level_of a ∙ ap nodes_of tree),
 )
   where
     last : State

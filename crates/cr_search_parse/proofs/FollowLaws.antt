@@ -4,46 +4,46 @@ use Rattle.std.proofs.Common.{◌≡◌, ℕ, ◌+◌, ◌-◌, ◌<◌, ◌≤�
 use Rattle.std.proofs.Common.{length, refl, ap, ap₂, sym, ◌∙◌, append_assoc, append-nil, length-append, replicate}
 use Rattle.std.proofs.Common.{ne_eqb, arith}
 use Rattle.std.proofs.lemmas.List.{length-replicate}
-use Rattle.cr_base.specs.declared.search.Step.{Step}
-use Rattle.cr_base.specs.declared.search.Step.TheVariants as step
+use Rattle.cr_base.specs.declared.search.Node.{Node}
+use Rattle.cr_base.specs.declared.search.Node.TheVariants as node
 use Rattle.cr_search_parse.specs.Reading.{State, Level, first, ended, wanted, no_level, levels_depth}
-use Rattle.cr_search_parse.specs.Reading.{with_operand, denied, with_item, after_item, level_steps, one_negation_more}
+use Rattle.cr_search_parse.specs.Reading.{with_operand, denied, with_item, after_item, level_nodes, one_negation_more}
 use Rattle.cr_search_parse.specs.Reading.{after_open, closed}
-use Rattle.cr_search_parse.specs.Standing.{Stands, StandsForOne, next_told, counted, all_counted, steps_of_levels}
+use Rattle.cr_search_parse.specs.Standing.{Stands, StandsForOne, next_told, counted, all_counted, nodes_of_levels}
 use Rattle.cr_search_parse.specs.Standing.{operation_behind, count_behind, behind_item, counts_behind_item}
 use Rattle.cr_search_parse.specs.declared.reader.Level.{Level as Counts}
 use Rattle.cr_search_parse.specs.declared.reader.Reader.{Reader}
 
 -- ---- operands
 
-operand-is : (operation : ℕ → Step) (before second : List Step)
+operand-is : (operation : ℕ → Node) (before second : List Node)
     → with_operand operation before second ≡ before
     ++ (second ++ operation_behind (length before) (operation (length second)))
 operand-is operation [] second = sym (append-nil second)
 operand-is operation (s ∷ before) second = rw (ne_eqb (suc (length before)) 0 (λ e. omega arith)) refl
 
-operand-length : (operation : ℕ → Step) (before second : List Step)
+operand-length : (operation : ℕ → Node) (before second : List Node)
     → length (with_operand operation before second) ≡ count_behind (length before) (length second)
 operand-length operation [] second = refl
 operand-length operation (s ∷ before) second =
     rw (ne_eqb (suc (length before)) 0 (λ e. omega arith)) (rw (length-append, length-append) (omega arith))
 
--- so many steps an item has with its negations
-denied-length : (n : ℕ) (item : List Step) → length (denied n item) ≡ length item + n
+-- so many nodes an item has with its negations
+denied-length : (n : ℕ) (item : List Node) → length (denied n item) ≡ length item + n
 denied-length n item =
-    length-append item (replicate n step.Not) ∙ ap (λ (k : ℕ). length item + k) (length-replicate n step.Not)
+    length-append item (replicate n node.Not) ∙ ap (λ (k : ℕ). length item + k) (length-replicate n node.Not)
 
--- what is written behind an item that ends makes its level's steps
-pub item-steps : (before item : List Step) (level : Level) →
+-- what is written behind an item that ends makes its level's nodes
+pub item-nodes : (before item : List Node) (level : Level) →
     ((before ++ (level.alternatives ++ level.items)) ++ item)
-    ++ (replicate level.negations step.Not ++ operation_behind (length level.items)
-    (step.And (length item + level.negations)))
+    ++ (replicate level.negations node.Not ++ operation_behind (length level.items)
+    (node.And (length item + level.negations)))
     ≡ before ++ ((with_item item level).alternatives ++ (with_item item level).items)
-item-steps before item level =
-    rw (operand-is step.And level.items (denied level.negations item), denied-length level.negations item)
+item-nodes before item level =
+    rw (operand-is node.And level.items (denied level.negations item), denied-length level.negations item)
     (simp append_assoc)
 
-pub item-counts : (item : List Step) (level : Level) →
+pub item-counts : (item : List Node) (level : Level) →
     ◌≡◌ {A = Counts}
     (record {
       alternatives = length level.alternatives;
@@ -52,18 +52,18 @@ pub item-counts : (item : List Step) (level : Level) →
     })
     (counted (with_item item level))
 item-counts item level =
-    rw (operand-length step.And level.items (denied level.negations item), denied-length level.negations item) refl
+    rw (operand-length node.And level.items (denied level.negations item), denied-length level.negations item) refl
 
 -- and what is written where a level ends makes those of the level
-pub level-steps : (before : List Step) (level : Level) →
+pub level-nodes : (before : List Node) (level : Level) →
     (before ++ (level.alternatives ++ level.items)) ++ operation_behind (length level.alternatives)
-    (step.Or (length level.items))
-    ≡ before ++ level_steps level
-level-steps before level = rw (operand-is step.Or level.alternatives level.items) (simp append_assoc)
+    (node.Or (length level.items))
+    ≡ before ++ level_nodes level
+level-nodes before level = rw (operand-is node.Or level.alternatives level.items) (simp append_assoc)
 
 pub level-count : (level : Level) → count_behind (length level.alternatives) (length level.items)
-    ≡ length (level_steps level)
-level-count level = sym (operand-length step.Or level.alternatives level.items)
+    ≡ length (level_nodes level)
+level-count level = sym (operand-length node.Or level.alternatives level.items)
 
 -- ---- the levels around
 
@@ -102,15 +102,15 @@ no-level_left (level ∷ levels) e = absurd (none (all_counted levels) e)
 -- ---- one symbol
 
 -- a parenthesis opens
-pub open_stands : (r q : Reader) (s : State) → Stands r s → q.steps.items ≡ r.steps.items
+pub open_stands : (r q : Reader) (s : State) → Stands r s → q.nodes.items ≡ r.nodes.items
     → q.around.items ≡ r.around.items ++ (r.level ∷ [])
     → q.level ≡ counted no_level → first ≡ next_told q.next → q.outside ≡ r.outside + (r.level.negations + 1)
     → q.terms ≡ r.terms
     → r.outside + r.level.negations < 64 → Stands q (after_open s)
-open_stands r q s stands steps around level next outside terms low =
+open_stands r q s stands nodes around level next outside terms low =
     let negations = ap (λ (l : Counts). l.negations) stands.level in
     record {
-      steps = steps ∙ (stands.steps ∙ sym (append-nil (steps_of_levels (s.level ∷ s.around))));
+      nodes = nodes ∙ (stands.nodes ∙ sym (append-nil (nodes_of_levels (s.level ∷ s.around))));
       around = around ∙ ap₂ (λ (before : List Counts) (l : Counts). before ++ (l ∷ [])) stands.around stands.level;
       level = level;
       next = next;
@@ -119,17 +119,17 @@ open_stands r q s stands steps around level next outside terms low =
       shallow = omega (arith, low, stands.outside, negations);
     }
 
--- an item has ended, whose steps come last
-pub item_stands : (q : Reader) (s : State) (item : List Step) (count : ℕ) (level : Counts) (steps : List Step)
+-- an item has ended, whose nodes come last
+pub item_stands : (q : Reader) (s : State) (item : List Node) (count : ℕ) (level : Counts) (nodes : List Node)
     → level ≡ counted s.level
-    → count ≡ length item → steps ≡ steps_of_levels (s.level ∷ s.around) ++ item
-    → q.steps.items ≡ steps ++ behind_item level count
+    → count ≡ length item → nodes ≡ nodes_of_levels (s.level ∷ s.around) ++ item
+    → q.nodes.items ≡ nodes ++ behind_item level count
     → q.around.items ≡ all_counted s.around
     → q.level ≡ counts_behind_item level count
     → ended ≡ next_told q.next → q.outside ≡ levels_depth s.around → q.terms ≡ s.terms → levels_depth s.around ≤ 64
     → Stands q (after_item item s)
-item_stands q s item count level steps is_level is_count is_steps written around after next outside terms low = record {
-  steps = written ∙ rw (is_steps, is_level, is_count) (item-steps (steps_of_levels s.around) item s.level);
+item_stands q s item count level nodes is_level is_count is_nodes written around after next outside terms low = record {
+  nodes = written ∙ rw (is_nodes, is_level, is_count) (item-nodes (nodes_of_levels s.around) item s.level);
   around = around;
   level = after ∙ rw (is_level, is_count) (item-counts item s.level);
   next = next;
@@ -140,18 +140,18 @@ item_stands q s item count level steps is_level is_count is_steps written around
 
 -- the alternatives of a level have one more
 pub or_stands : (r q : Reader) (s : State) → Stands r s
-    → q.steps.items ≡ r.steps.items ++ operation_behind r.level.alternatives (step.Or r.level.items)
+    → q.nodes.items ≡ r.nodes.items ++ operation_behind r.level.alternatives (node.Or r.level.items)
     → q.around.items ≡ r.around.items
     → q.level ≡ record { alternatives = count_behind r.level.alternatives r.level.items; items = 0; negations = 0 }
     → wanted ≡ next_told q.next → q.outside ≡ r.outside → q.terms ≡ r.terms
     → Stands q (record s {
-      level = record { alternatives = level_steps s.level; items = []; negations = 0 };
+      level = record { alternatives = level_nodes s.level; items = []; negations = 0 };
       next = wanted;
     })
-or_stands r q s stands steps around level next outside terms = record {
-  steps =
-      let none_more = ap (λ (l : List Step). steps_of_levels s.around ++ l) (sym (append-nil (level_steps s.level))) in
-      steps ∙ (rw (stands.steps, stands.level) (level-steps (steps_of_levels s.around) s.level ∙ none_more));
+or_stands r q s stands nodes around level next outside terms = record {
+  nodes =
+      let none_more = ap (λ (l : List Node). nodes_of_levels s.around ++ l) (sym (append-nil (level_nodes s.level))) in
+      nodes ∙ (rw (stands.nodes, stands.level) (level-nodes (nodes_of_levels s.around) s.level ∙ none_more));
   around = around ∙ stands.around;
   level =
       level
@@ -163,14 +163,14 @@ or_stands r q s stands steps around level next outside terms = record {
 }
 
 -- one negation more waits
-pub negation_stands : (r q : Reader) (s : State) → Stands r s → q.steps.items ≡ r.steps.items
+pub negation_stands : (r q : Reader) (s : State) → Stands r s → q.nodes.items ≡ r.nodes.items
     → q.around.items ≡ r.around.items
     → q.level ≡ record r.level { negations = r.level.negations + 1 } → q.outside ≡ r.outside → q.terms ≡ r.terms
     → r.outside + r.level.negations < 64 → Stands q (one_negation_more (next_told q.next) s)
-negation_stands r q s stands steps around level outside terms low =
+negation_stands r q s stands nodes around level outside terms low =
     let negations = ap (λ (l : Counts). l.negations) stands.level in
     record {
-      steps = steps ∙ stands.steps;
+      nodes = nodes ∙ stands.nodes;
       around = around ∙ stands.around;
       level = level ∙ ap (λ (l : Counts). record l { negations = l.negations + 1 }) stands.level;
       next = refl;
@@ -179,17 +179,17 @@ negation_stands r q s stands steps around level outside terms low =
       shallow = omega (arith, low, stands.outside, negations);
     }
 
--- the steps that end the text
-pub end_steps : (r : Reader) (s : State) (steps : List Step) → Stands r s → r.around.items ≡ []
-    → steps ≡ r.steps.items ++ operation_behind r.level.alternatives (step.Or r.level.items)
-    → steps ≡ level_steps s.level
-end_steps r s steps stands none written =
+-- the nodes that end the text
+pub end_nodes : (r : Reader) (s : State) (nodes : List Node) → Stands r s → r.around.items ≡ []
+    → nodes ≡ r.nodes.items ++ operation_behind r.level.alternatives (node.Or r.level.items)
+    → nodes ≡ level_nodes s.level
+end_nodes r s nodes stands none written =
     let no_more = no-level_left s.around (sym none ∙ stands.around) in
-    written ∙ rw (stands.steps, stands.level, no_more) (level-steps [] s.level)
+    written ∙ rw (stands.nodes, stands.level, no_more) (level-nodes [] s.level)
 
 -- ---- a parenthesis closes
 
-behind-most : (count : ℕ) (operation : Step) → length (operation_behind count operation) ≤ 1
+behind-most : (count : ℕ) (operation : Node) → length (operation_behind count operation) ≤ 1
 behind-most count operation = most (eqb count 0)
   where
     most : (b : Bool) → length (cond b [] (operation ∷ [])) ≤ 1
@@ -203,7 +203,7 @@ count-most count second = most (eqb count 0)
     most true = omega arith
     most false = omega arith
 
-level-length : (before : List Step) (level : Level) →
+level-length : (before : List Node) (level : Level) →
     length (before ++ (level.alternatives ++ level.items)) ≡ length before
     + (length level.alternatives + length level.items)
 level-length before level =
@@ -217,7 +217,7 @@ level-length before level =
 pub record Around (r : Reader) (last : Counts) : Type 0 where
   pub inside : last.negations + 1 ≤ r.outside
   pub low : r.outside ≤ 64
-  pub few : last.items + (r.level.alternatives + r.level.items) ≤ length r.steps.items
+  pub few : last.items + (r.level.alternatives + r.level.items) ≤ length r.nodes.items
 
 pub around_code : (r : Reader) (left : List Counts) (last : Counts) → StandsForOne r
     → r.around.items ≡ left ++ (last ∷ [])
@@ -231,30 +231,30 @@ around_code r left last stood is =
     let deep = ap levels_depth p.all in
     let a = ap (λ (l : Counts). l.alternatives) stands.level in
     let i = ap (λ (l : Counts). l.items) stands.level in
-    let n = ap length stands.steps in
-    let more = ap (λ (levels : List Level). length (steps_of_levels levels)) p.all in
+    let n = ap length stands.nodes in
+    let more = ap (λ (levels : List Level). length (nodes_of_levels levels)) p.all in
     record {
       inside = omega (arith, stands.outside, deep, negations);
       low = omega (arith, stands.outside, stands.shallow);
       few =
-          let all = level-length (steps_of_levels s.around) s.level in
-          let inner = level-length (steps_of_levels p.levels) p.level in
+          let all = level-length (nodes_of_levels s.around) s.level in
+          let inner = level-length (nodes_of_levels p.levels) p.level in
           omega (arith, a, i, n, more, items, all, inner);
     }
 
-pub close_fits : (r : Reader) (last : Counts) (count : ℕ) → Around r last → length r.steps.items < 60000
+pub close_fits : (r : Reader) (last : Counts) (count : ℕ) → Around r last → length r.nodes.items < 60000
     → count ≡ count_behind r.level.alternatives r.level.items → last.items + (count + last.negations) < 65535
 close_fits r last count so light is =
     omega (arith, so.inside, so.low, so.few, is, count-most r.level.alternatives r.level.items)
 
-pub close_grows : (old written after : List Step) (last : Counts) (count : ℕ) (o p : Step) (i j outside : ℕ)
+pub close_grows : (old written after : List Node) (last : Counts) (count : ℕ) (o p : Node) (i j outside : ℕ)
     → last.negations + 1 ≤ outside
     → written ≡ old ++ operation_behind i o → after ≡ written
-    ++ (replicate last.negations step.Not ++ operation_behind j p)
+    ++ (replicate last.negations node.Not ++ operation_behind j p)
     → length after + (outside - (last.negations + 1) + 0) ≤ length old + (outside + count) + 2
 close_grows old written after last count o p i j outside inside e f =
     let first_more = length-append old (operation_behind i o) in
-    let nots = replicate last.negations step.Not in
+    let nots = replicate last.negations node.Not in
     let second_more = length-append written (nots ++ operation_behind j p) in
     let item_more = length-append nots (operation_behind j p) in
     let most = behind-most i o in
@@ -266,27 +266,27 @@ close_grows old written after last count o p i j outside inside e f =
       first_more,
       second_more,
       item_more,
-      length-replicate last.negations step.Not,
+      length-replicate last.negations node.Not,
       most,
       most_more,
     )
 
-pub close_stands : (r q : Reader) (s : State) (last : Counts) (count : ℕ) (steps : List Step) → Stands r s
+pub close_stands : (r q : Reader) (s : State) (last : Counts) (count : ℕ) (nodes : List Node) → Stands r s
     → (p : Popped s.around q.around.items last)
-    → steps ≡ r.steps.items ++ operation_behind r.level.alternatives (step.Or r.level.items)
+    → nodes ≡ r.nodes.items ++ operation_behind r.level.alternatives (node.Or r.level.items)
     → count ≡ count_behind r.level.alternatives r.level.items
-    → q.steps.items ≡ steps ++ behind_item last count
+    → q.nodes.items ≡ nodes ++ behind_item last count
     → q.level ≡ counts_behind_item last count
     → ended ≡ next_told q.next → q.outside ≡ r.outside - (last.negations + 1) → q.terms ≡ r.terms
-    → Stands q (closed (level_steps s.level) p.level p.levels s)
-close_stands r q s last count steps stands p ended_level is_count written after next outside terms =
+    → Stands q (closed (level_nodes s.level) p.level p.levels s)
+close_stands r q s last count nodes stands p ended_level is_count written after next outside terms =
     let negations = ap (λ (l : Counts). l.negations) p.popped_level in
     let deep = ap levels_depth p.all in
     let so : State = record s { around = p.levels; level = p.level } in
-    let level_written : steps ≡ steps_of_levels s.around ++ level_steps s.level =
-    ended_level ∙ rw (stands.steps, stands.level) (level-steps (steps_of_levels s.around) s.level) in
-    item_stands q so (level_steps s.level) count last steps p.popped_level
+    let level_written : nodes ≡ nodes_of_levels s.around ++ level_nodes s.level =
+    ended_level ∙ rw (stands.nodes, stands.level) (level-nodes (nodes_of_levels s.around) s.level) in
+    item_stands q so (level_nodes s.level) count last nodes p.popped_level
     (is_count ∙ rw stands.level (level-count s.level))
-    (level_written ∙ ap (λ (levels : List Level). steps_of_levels levels ++ level_steps s.level) p.all)
+    (level_written ∙ ap (λ (levels : List Level). nodes_of_levels levels ++ level_nodes s.level) p.all)
     written p.rest after next (omega (arith, outside, stands.outside, deep, negations)) (terms ∙ stands.terms)
     (omega (arith, stands.shallow, deep))

@@ -3,8 +3,8 @@
 use Rattle.std.proofs.Common.{◌≡◌, inl, inr, ℕ, ◌≤◌, Bool, List, length, Option, Ok, Err, if◌then◌else◌, ap, sym, ◌∙◌}
 use Rattle.std.proofs.Common.{subst}
 use Rattle.std.proofs.lemmas.Bool.{le-ltb}
-use Rattle.cr_base.specs.Search.{Tree, all_steps, tree_of, IsSpelled}
-use Rattle.cr_base.specs.declared.search.Step.{Step}
+use Rattle.cr_base.specs.Search.{Tree, all_nodes, tree_of, IsSpelled}
+use Rattle.cr_base.specs.declared.search.Node.{Node}
 use Rattle.cr_search_parse.specs.Grammar.{symbols_of, IsQuery}
 use Rattle.cr_search_parse.specs.Outcome.{Parses}
 use Rattle.cr_search_parse.specs.Offsets.{most_bytes, IsOffset, Spells, IsBad}
@@ -16,39 +16,39 @@ use Rattle.cr_search_parse.specs.declared.parsing.ParseError.TheVariants as told
 use Rattle.cr_search_parse.proofs.OffsetLaws.{stuck, short, one}
 use Rattle.cr_search_parse.proofs.Sound.{found}
 use Rattle.cr_search_parse.proofs.StopLaws.{gives-read, stops-read}
-use Rattle.cr_search_parse.proofs.TreeLaws.{tree_of-all_steps}
+use Rattle.cr_search_parse.proofs.TreeLaws.{tree_of-all_nodes}
 
--- the query whose steps these are
-pub record Found (runs : List Run) (steps : List Step) : Type 0 where
+-- the query whose nodes these are
+pub record Found (runs : List Run) (nodes : List Node) : Type 0 where
   pub tree : Option Tree
-  pub spelled : steps ≡ all_steps tree
+  pub spelled : nodes ≡ all_nodes tree
   pub query : IsQuery (symbols_of runs) tree
 
-pub gives-found : (runs : List Run) (steps : List Step) → Gives runs steps → Found runs steps
-gives-found runs steps given =
-    let query = found (symbols_of runs) given.0 steps given.1 given.2 in
+pub gives-found : (runs : List Run) (nodes : List Node) → Gives runs nodes → Found runs nodes
+gives-found runs nodes given =
+    let query = found (symbols_of runs) given.0 nodes given.1 given.2 in
     record { tree = query.0; spelled = query.1; query = query.2 }
 
-spelled-tree : (runs : List Run) (steps : List Step) (query : Found runs steps) → tree_of steps ≡ query.tree
-spelled-tree runs steps query = ap tree_of query.spelled ∙ tree_of-all_steps query.tree
+spelled-tree : (runs : List Run) (nodes : List Node) (query : Found runs nodes) → tree_of nodes ≡ query.tree
+spelled-tree runs nodes query = ap tree_of query.spelled ∙ tree_of-all_nodes query.tree
 
-pub gives-spelled : (runs : List Run) (steps : List Step) → Gives runs steps → IsSpelled steps
-gives-spelled runs steps given =
-    let query = gives-found runs steps given in ap all_steps (spelled-tree runs steps query) ∙ sym query.spelled
+pub gives-spelled : (runs : List Run) (nodes : List Node) → Gives runs nodes → IsSpelled nodes
+gives-spelled runs nodes given =
+    let query = gives-found runs nodes given in ap all_nodes (spelled-tree runs nodes query) ∙ sym query.spelled
 
-pub gives-spells : (text : List ℕ) (steps : List Step) → length text ≤ most_bytes → Gives (runs_of text) steps
-    → Spells text (tree_of steps)
-gives-spells text steps few given =
-    let query = gives-found (runs_of text) steps given in
-    let same = sym (spelled-tree (runs_of text) steps query) in
+pub gives-spells : (text : List ℕ) (nodes : List Node) → length text ≤ most_bytes → Gives (runs_of text) nodes
+    → Spells text (tree_of nodes)
+gives-spells text nodes few given =
+    let query = gives-found (runs_of text) nodes given in
+    let same = sym (spelled-tree (runs_of text) nodes query) in
     (few, subst (λ (tree : Option Tree). IsQuery (symbols_of (runs_of text)) tree) same query.query)
 
-pub gives-only : (runs : List Run) (steps : List Step) (t : Option Tree) → Gives runs steps
+pub gives-only : (runs : List Run) (nodes : List Node) (t : Option Tree) → Gives runs nodes
     → IsQuery (symbols_of runs) t
-    → steps ≡ all_steps t
-gives-only runs steps t given is =
+    → nodes ≡ all_nodes t
+gives-only runs nodes t given is =
     let query =
-    gives-found runs steps given in query.spelled ∙ ap all_steps (one (symbols_of runs) query.tree t query.query is)
+    gives-found runs nodes given in query.spelled ∙ ap all_nodes (one (symbols_of runs) query.tree t query.query is)
 
 pub stops-no_query : (runs : List Run) (offset : ℕ) → StopsAt runs offset → (t : Option Tree)
     → IsQuery (symbols_of runs) t → ⊥
@@ -69,7 +69,7 @@ stops-bad text offset few stop = inr (few, stops-no_query (runs_of text) offset 
 -- ---- refusals
 
 pub not-found : (text : List ℕ) (error : ParseError) (t : Option Tree) → Reads (Err error) text
-    → IsQuery (symbols_of (runs_of text)) t → IsFound (Err error) (all_steps t)
+    → IsQuery (symbols_of (runs_of text)) t → IsFound (Err error) (all_nodes t)
 not-found text (told.BadQuery offset) t stop query = stops-no_query (runs_of text) offset stop t query
 not-found text told.OutOfMemory t stop query = tt
 
@@ -86,9 +86,9 @@ pub few-read : (text : List ℕ) → length text ≤ most_bytes → text_read te
 few-read text few = ap (λ (b : Bool). if b then Err most_bytes else runs_read (runs_of text) 0 start)
     (le-ltb most_bytes (length text) few)
 
-pub gives-exact : (text : List ℕ) (steps : List Step) → length text ≤ most_bytes → Gives (runs_of text) steps
-    → text_read text ≡ Ok steps
-gives-exact text steps few given = few-read text few ∙ gives-read (runs_of text) steps given
+pub gives-exact : (text : List ℕ) (nodes : List Node) → length text ≤ most_bytes → Gives (runs_of text) nodes
+    → text_read text ≡ Ok nodes
+gives-exact text nodes few given = few-read text few ∙ gives-read (runs_of text) nodes given
 
 pub stops-exact : (text : List ℕ) (error : ParseError) → length text ≤ most_bytes → Reads (Err error) text
     → Parses (Err error) (text_read text)

@@ -2,12 +2,12 @@
 -- What the reader makes of symbols in a row, of spaces, and of words.
 use Rattle.std.proofs.Common.{◌≡◌, ℕ, zero, suc, ◌+◌, ◌≤◌, Bool, true, false, List, [], ◌∷◌, ◌++◌, Option, Some, None}
 use Rattle.std.proofs.Common.{replicate, if◌then◌else◌, bytes_eq, option_and_then, refl, sym, ap, ◌∙◌, append_assoc}
-use Rattle.std.proofs.Common.{arith}
+use Rattle.std.proofs.Common.{arith, add-one}
 use Rattle.std.proofs.lemmas.Bool.{le-ltb}
 use Rattle.std.proofs.lemmas.Option.{none-some}
 use Rattle.std.proofs.lemmas.Slice.Eq.{bytes_eq-Decides}
-use Rattle.cr_base.specs.declared.search.Step.{Step}
-use Rattle.cr_base.specs.declared.search.Step.TheVariants as step
+use Rattle.cr_base.specs.declared.search.Node.{Node}
+use Rattle.cr_base.specs.declared.search.Node.TheVariants as node
 use Rattle.cr_base.specs.declared.search.Term.{Term}
 use Rattle.cr_search_parse.specs.Grammar.{Symbol, gap, gap_symbols, and_word, or_word, not_word}
 use Rattle.cr_search_parse.specs.Reading.{State, wanted, depth, denied, if_shallow, one_negation_more, after_gap}
@@ -52,15 +52,12 @@ shallow s h = ap (λ (b : Bool). if b then None else Some s) (le-ltb 64 (depth s
 
 -- ---- negations
 
-pub denied_more : (n : ℕ) (item : List Step) → denied (n + 1) item ≡ denied n (item ++ (step.Not ∷ []))
+pub denied_more : (n : ℕ) (item : List Node) → denied (n + 1) item ≡ denied n (item ++ (node.Not ∷ []))
 denied_more n item =
-    ap (λ (xs : List Step). item ++ xs) (one_more n) ∙ sym (append_assoc item (step.Not ∷ []) (replicate n step.Not))
+    ap (λ (xs : List Node). item ++ xs) (one_more n) ∙ sym (append_assoc item (node.Not ∷ []) (replicate n node.Not))
   where
-    one_more : (n : ℕ) → replicate (n + 1) step.Not ≡ step.Not ∷ replicate n step.Not
-    one_more n = ap (λ (k : ℕ). replicate k step.Not) (next n)
-      where
-        next : (n : ℕ) → n + 1 ≡ suc n
-        next n = omega arith
+    one_more : (n : ℕ) → replicate (n + 1) node.Not ≡ node.Not ∷ replicate n node.Not
+    one_more n = ap (λ (k : ℕ). replicate k node.Not) (add-one n)
 
 -- ---- words
 
@@ -74,7 +71,7 @@ word_between text other t none is = decided (bytes_eq text other) refl
     decided true e = absurd (none-some t (sym none ∙ sym (ap term_of ((bytes_eq-Decides text other).0 e)) ∙ is))
 
 pub after_word-term : (s : State) (text : List ℕ) (t : Term) → term_of text ≡ Some t → s.terms + 1 ≤ 128
-    → after_word s text ≡ Some (after_item (step.Term t ∷ []) (record s { terms = s.terms + 1 }))
+    → after_word s text ≡ Some (after_item (node.Term t ∷ []) (record s { terms = s.terms + 1 }))
 after_word-term s text t is few =
     ap (λ (b : Bool). if b then after_and s s.next else
     (if is_or text then after_or s s.next else
@@ -86,5 +83,5 @@ after_word-term s text t is few =
     ∙ ap (λ (b : Bool). if b then if_shallow (one_negation_more wanted s) else after_term s (term_of text))
     (word_between text not_word t refl is)
     ∙ ap (after_term s) is
-    ∙ ap (λ (b : Bool). if b then None else Some (after_item (step.Term t ∷ []) (record s { terms = s.terms + 1 })))
+    ∙ ap (λ (b : Bool). if b then None else Some (after_item (node.Term t ∷ []) (record s { terms = s.terms + 1 })))
     (le-ltb 127 s.terms (omega arith))

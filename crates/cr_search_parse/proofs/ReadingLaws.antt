@@ -3,8 +3,8 @@
 use Rattle.std.proofs.Common.{◌≡◌, ◌⊎◌, inl, inr, ℕ, ◌+◌, ◌<◌, ◌≤◌, Bool, List, length, take, Option, Result, Ok, Err}
 use Rattle.std.proofs.Common.{if◌then◌else◌, refl, ap, sym, ◌∙◌, subst, arith}
 use Rattle.std.proofs.lemmas.Bool.{cases_lt, cases_order, lt-ltb}
-use Rattle.cr_base.specs.Search.{Tree, all_steps}
-use Rattle.cr_base.specs.declared.search.Step.{Step}
+use Rattle.cr_base.specs.Search.{Tree, all_nodes}
+use Rattle.cr_base.specs.declared.search.Node.{Node}
 use Rattle.cr_search_parse.specs.Grammar.{symbols_of}
 use Rattle.cr_search_parse.specs.Laws.{GrammarSays}
 use Rattle.cr_search_parse.specs.Offsets.{most_bytes, IsGood, IsOffset, Spells, IsBad}
@@ -17,10 +17,10 @@ use Rattle.cr_search_parse.proofs.StopLaws.{Ends, all-end, gives-read, stops-rea
 -- ---- what is read is said
 
 few-said : (text : List ℕ) → length text ≤ most_bytes → Ends (runs_of text) → GrammarSays text (text_read text)
-few-said text few (inl (steps, given)) =
-    let query = gives-found (runs_of text) steps given in
-    let says : GrammarSays text (Ok steps) = (query.tree, query.spelled, (few, query.query)) in
-    subst (GrammarSays text) (sym (few-read text few ∙ gives-read (runs_of text) steps given)) says
+few-said text few (inl (nodes, given)) =
+    let query = gives-found (runs_of text) nodes given in
+    let says : GrammarSays text (Ok nodes) = (query.tree, query.spelled, (few, query.query)) in
+    subst (GrammarSays text) (sym (few-read text few ∙ gives-read (runs_of text) nodes given)) says
 few-said text few (inr (offset, stop)) =
     subst (GrammarSays text) (sym (few-read text few ∙ stops-read (runs_of text) offset stop))
     (stops-bad text offset few stop)
@@ -71,10 +71,10 @@ bad-no_tree : (text : List ℕ) (tree : Option Tree) (offset : ℕ) → Spells t
 bad-no_tree text tree offset spells (inl bad) = never_both most_bytes (length text) bad.0 spells.0
 bad-no_tree text tree offset spells (inr bad) = bad.1 tree spells.1
 
-pub one-said : (text : List ℕ) (a b : Result (List Step) ℕ) → GrammarSays text a → GrammarSays text b → a ≡ b
-one-said text (Ok steps) (Ok others) p q =
+pub one-said : (text : List ℕ) (a b : Result (List Node) ℕ) → GrammarSays text a → GrammarSays text b → a ≡ b
+one-said text (Ok nodes) (Ok others) p q =
     let same : p.0 ≡ q.0 = one (symbols_of (runs_of text)) p.0 q.0 p.2.1 q.2.1 in
-    ap (λ (s : List Step). Ok s) (p.1 ∙ ap all_steps same ∙ sym q.1)
-one-said text (Ok steps) (Err offset) p q = absurd (bad-no_tree text p.0 offset p.2 q)
-one-said text (Err offset) (Ok steps) p q = absurd (bad-no_tree text q.0 offset q.2 p)
+    ap (λ (s : List Node). Ok s) (p.1 ∙ ap all_nodes same ∙ sym q.1)
+one-said text (Ok nodes) (Err offset) p q = absurd (bad-no_tree text p.0 offset p.2 q)
+one-said text (Err offset) (Ok nodes) p q = absurd (bad-no_tree text q.0 offset q.2 p)
 one-said text (Err a) (Err b) p q = ap (λ (n : ℕ). Err n) (one-bad text a b p q)

@@ -7,9 +7,9 @@ use Rattle.std.specs.Prelude.{nat_lt}
 use Rattle.std.proofs.lemmas.Bool.{ltb-false}
 use Rattle.std.proofs.lemmas.Option.{none-some, same_Some, option_and_then_some}
 use Rattle.std.proofs.lemmas.Slice.Eq.{bytes_eq-Decides}
-use Rattle.cr_base.specs.Search.{Tree, both, steps_of, all_steps}
-use Rattle.cr_base.specs.declared.search.Step.{Step}
-use Rattle.cr_base.specs.declared.search.Step.TheVariants as step
+use Rattle.cr_base.specs.Search.{Tree, both, nodes_of, all_nodes}
+use Rattle.cr_base.specs.declared.search.Node.{Node}
+use Rattle.cr_base.specs.declared.search.Node.TheVariants as node
 use Rattle.cr_base.specs.declared.search.Term.{Term}
 use Rattle.cr_search_parse.specs.Grammar.{Symbol, gap, opens, closes, dash, sample, word, Item, All, Any, term, added}
 use Rattle.cr_search_parse.specs.Grammar.{dashed, negated, grouped, one, beside, joined, sole, other, gap_symbols}
@@ -17,18 +17,18 @@ use Rattle.cr_search_parse.specs.Grammar.{and_word, or_word, not_word, item_symb
 use Rattle.cr_search_parse.specs.Grammar.{item_tree, all_tree, any_tree, item_depth, all_depth, any_depth, item_terms}
 use Rattle.cr_search_parse.specs.Grammar.{all_terms, any_terms, IsQuery}
 use Rattle.cr_search_parse.specs.Reading.{Level, State, Next, first, ended, wanted, touching, start, no_level, depth}
-use Rattle.cr_search_parse.specs.Reading.{levels_depth, denied, with_operand, with_item, level_steps, if_shallow}
+use Rattle.cr_search_parse.specs.Reading.{levels_depth, denied, with_operand, with_item, level_nodes, if_shallow}
 use Rattle.cr_search_parse.specs.Reading.{after_open, one_negation_more, after_item, closed, after_gap, after_close}
 use Rattle.cr_search_parse.specs.Reading.{after_and, after_or, after_term, after_word, after_symbol, after_symbols}
-use Rattle.cr_search_parse.specs.Reading.{at_end, steps_read}
+use Rattle.cr_search_parse.specs.Reading.{at_end, nodes_read}
 use Rattle.cr_search_parse.specs.Terms.{term_of, is_and, is_or, is_not}
 use Rattle.cr_search_parse.proofs.TreeLaws.{append_last}
 use Rattle.cr_search_parse.proofs.ReaderLaws.{denied_more}
-use Rattle.cr_search_parse.proofs.Complete.{level_at, level_of, level_steps-level_of, with_operand-item}
+use Rattle.cr_search_parse.proofs.Complete.{level_at, level_of, level_nodes-level_of, with_operand-item}
 
 -- ---- a level that has items, and one that waits for an item
 
--- What was read of a level is alternatives, which make these steps and have so many terms. No item stands too deep,
+-- What was read of a level is alternatives, which make these nodes and have so many terms. No item stands too deep,
 -- where the level itself stands so deep.
 record Has (base : ℕ) (here : List Symbol) (level : Level) (terms : ℕ) : Type 0 where
   before : ℕ
@@ -42,7 +42,7 @@ record Has (base : ℕ) (here : List Symbol) (level : Level) (terms : ℕ) : Typ
 -- it will be, with any item that isn't too deep
 abbrev Waits : ℕ → List Symbol → Level → ℕ → Type 0
 Waits base here level terms = (i : Item) → base + (level.negations + item_depth i) ≤ 64
-    → Has base (here ++ item_symbols i) (with_item (steps_of (item_tree i)) level) (terms + item_terms i)
+    → Has base (here ++ item_symbols i) (with_item (nodes_of (item_tree i)) level) (terms + item_terms i)
 
 Has-at : {base : ℕ} {here there : List Symbol} {level other_level : Level} {terms other_terms : ℕ}
     → Has base here level terms → there ≡ here → other_level ≡ level → other_terms ≡ terms
@@ -69,16 +69,16 @@ Waits-begin base n i low = record {
   syntax = sole (one i);
   behind = 0;
   spelled = ap (λ (xs : List Symbol). gap_symbols n ++ xs) (sym (append-nil (item_symbols i)));
-  level_is = ap (λ (xs : List Step). level_at [] xs) (append-nil (steps_of (item_tree i)));
+  level_is = ap (λ (xs : List Node). level_at [] xs) (append-nil (nodes_of (item_tree i)));
   terms_are = omega arith;
   low = omega arith;
 }
 
 -- one negation more
-negated_level : (level : Level) (t : Tree) → with_item (steps_of t) (record level { negations = level.negations + 1 })
-    ≡ with_item (steps_of t ++ (step.Not ∷ [])) level
-negated_level level t = ap (λ (xs : List Step). level_at level.alternatives (with_operand step.And level.items xs))
-    (denied_more level.negations (steps_of t))
+negated_level : (level : Level) (t : Tree) → with_item (nodes_of t) (record level { negations = level.negations + 1 })
+    ≡ with_item (nodes_of t ++ (node.Not ∷ [])) level
+negated_level level t = ap (λ (xs : List Node). level_at level.alternatives (with_operand node.And level.items xs))
+    (denied_more level.negations (nodes_of t))
 
 Waits-dash : (base : ℕ) (here : List Symbol) (level : Level) (terms : ℕ) → Waits base here level terms
     → Waits base (here ++ (dash ∷ [])) (record level { negations = level.negations + 1 }) terms
@@ -122,16 +122,16 @@ with_last-symbols between i longer l (other b n m a) =
     regroup a b x c d e = simp append_assoc
 
 -- their level
-last_level : (alternatives : List Step) (s t longer : Tree) → longer ≡ both s t
-    → level_at alternatives (with_operand step.And (steps_of s) (denied 0 (steps_of t)))
-    ≡ level_at alternatives (steps_of longer)
-last_level alternatives s t longer is = ap (level_at alternatives) (with_operand-item s t ∙ ap steps_of (sym is))
+last_level : (alternatives : List Node) (s t longer : Tree) → longer ≡ both s t
+    → level_at alternatives (with_operand node.And (nodes_of s) (denied 0 (nodes_of t)))
+    ≡ level_at alternatives (nodes_of longer)
+last_level alternatives s t longer is = ap (level_at alternatives) (with_operand-item s t ∙ ap nodes_of (sym is))
 
 with_last-level : (between : List Symbol) (i : Item) (longer : All → All) → Longer between i longer → (a : Any)
-    → with_item (steps_of (item_tree i)) (level_of a) ≡ level_of (with_last longer a)
+    → with_item (nodes_of (item_tree i)) (level_of a) ≡ level_of (with_last longer a)
 with_last-level between i longer l (sole a) = last_level [] (all_tree a) (item_tree i) (all_tree (longer a)) (l.tree a)
 with_last-level between i longer l (other b n m a) =
-    last_level (steps_of (any_tree b)) (all_tree a) (item_tree i) (all_tree (longer a)) (l.tree a)
+    last_level (nodes_of (any_tree b)) (all_tree a) (item_tree i) (all_tree (longer a)) (l.tree a)
 
 with_last-terms : (between : List Symbol) (i : Item) (longer : All → All) → Longer between i longer → (a : Any)
     → any_terms a + item_terms i ≡ any_terms (with_last longer a)
@@ -159,7 +159,7 @@ Waits-longer base here level terms between longer l h i low = record {
       ∙ regroup (gap_symbols h.before) (any_symbols h.syntax) (gap_symbols h.behind) between (item_symbols i)
       ∙ ap (λ (xs : List Symbol). gap_symbols h.before ++ (xs ++ []))
       (sym (with_last-symbols _ i (longer h.behind i) (l h.behind i) h.syntax));
-  level_is = ap (with_item (steps_of (item_tree i))) h.level_is
+  level_is = ap (with_item (nodes_of (item_tree i))) h.level_is
       ∙ with_last-level _ i (longer h.behind i) (l h.behind i) h.syntax;
   terms_are =
       ap (λ (n : ℕ). n + item_terms i) h.terms_are ∙ with_last-terms _ i (longer h.behind i) (l h.behind i) h.syntax;
@@ -202,12 +202,12 @@ Waits-and base here level terms h m =
 
 -- ---- alternatives, parentheses, spaces
 
-level_steps-Has : {base : ℕ} {here : List Symbol} {level : Level} {terms : ℕ} → (h : Has base here level terms)
-    → level_steps level ≡ steps_of (any_tree h.syntax)
-level_steps-Has h = ap level_steps h.level_is ∙ level_steps-level_of h.syntax
+level_nodes-Has : {base : ℕ} {here : List Symbol} {level : Level} {terms : ℕ} → (h : Has base here level terms)
+    → level_nodes level ≡ nodes_of (any_tree h.syntax)
+level_nodes-Has h = ap level_nodes h.level_is ∙ level_nodes-level_of h.syntax
 
 Waits-or : (base : ℕ) (here : List Symbol) (level : Level) (terms : ℕ) → Has base here level terms → (m : ℕ)
-    → Waits base ((here ++ (word or_word ∷ [])) ++ gap_symbols m) (level_at (level_steps level) []) terms
+    → Waits base ((here ++ (word or_word ∷ [])) ++ gap_symbols m) (level_at (level_nodes level) []) terms
 Waits-or base here level terms h m i low = record {
   before = h.before;
   syntax = other h.syntax h.behind m (one i);
@@ -216,8 +216,8 @@ Waits-or base here level terms h m i low = record {
       ap (λ (xs : List Symbol). ((xs ++ (word or_word ∷ [])) ++ gap_symbols m) ++ item_symbols i) h.spelled
       ∙ regroup (gap_symbols h.before) (any_symbols h.syntax) (gap_symbols h.behind) (word or_word) (gap_symbols m)
       (item_symbols i);
-  level_is = ap (λ (xs : List Step). level_at xs (steps_of (item_tree i) ++ [])) (level_steps-Has h)
-      ∙ ap (level_at (steps_of (any_tree h.syntax))) (append-nil (steps_of (item_tree i)));
+  level_is = ap (λ (xs : List Node). level_at xs (nodes_of (item_tree i) ++ [])) (level_nodes-Has h)
+      ∙ ap (level_at (nodes_of (any_tree h.syntax))) (append-nil (nodes_of (item_tree i)));
   terms_are = ap (λ (n : ℕ). n + item_terms i) h.terms_are;
   low = let deep : base + any_depth h.syntax ≤ 64 = h.low in omega arith;
 }
@@ -228,13 +228,13 @@ Waits-or base here level terms h m i low = record {
 
 Has-close : (base : ℕ) (front here : List Symbol) (level inner : Level) (terms inner_terms : ℕ)
     → Waits base front level terms → Has (level.negations + 1 + base) here inner inner_terms
-    → Has base (front ++ (opens ∷ (here ++ (closes ∷ [])))) (with_item (level_steps inner) level) (terms + inner_terms)
+    → Has base (front ++ (opens ∷ (here ++ (closes ∷ [])))) (with_item (level_nodes inner) level) (terms + inner_terms)
 Has-close base front here level inner terms inner_terms waits h =
     Has-at (waits (grouped h.before h.syntax h.behind) (deep (any_depth h.syntax) h.low))
     (ap (λ (xs : List Symbol). front ++ (opens ∷ (xs ++ (closes ∷ [])))) h.spelled
     ∙ ap (λ (xs : List Symbol). front ++ (opens ∷ xs))
     (append_last (gap_symbols h.before) (any_symbols h.syntax) (gap_symbols h.behind) (closes ∷ [])))
-    (ap (λ (xs : List Step). with_item xs level) (level_steps-Has h))
+    (ap (λ (xs : List Node). with_item xs level) (level_nodes-Has h))
     (ap (λ (n : ℕ). terms + n) h.terms_are)
   where
     deep : (n : ℕ) → level.negations + 1 + base + n ≤ 64 → base + (level.negations + (n + 1)) ≤ 64
@@ -272,7 +272,7 @@ Here-waits : (next : Next) (base : ℕ) (here : List Symbol) (level : Level) (te
     → Waits base here level terms
 Here-waits first base here level terms (n, is, none, no_terms) = λ i low.
     Has-at (Waits-begin base n i (deep level.negations (item_depth i) low))
-    (ap (λ (xs : List Symbol). xs ++ item_symbols i) is) (ap (with_item (steps_of (item_tree i))) none)
+    (ap (λ (xs : List Symbol). xs ++ item_symbols i) is) (ap (with_item (nodes_of (item_tree i))) none)
     (ap (λ (k : ℕ). k + item_terms i) no_terms)
   where
     deep : (n k : ℕ) → base + (n + k) ≤ 64 → base + (0 + k) ≤ 64
@@ -339,9 +339,9 @@ Reached-more past x around level new_level next new_next terms new_terms n h ins
 Reached-item : (past : List Symbol) (x : Symbol) (around : List Level) (level : Level) (next : Next) (terms : ℕ)
     (i : Item) → item_symbols i ≡ x ∷ [] → item_depth i ≡ 0
     → terms + item_terms i ≤ 128 → Reached past around level next terms
-    → Reached (past ++ (x ∷ [])) around (with_item (steps_of (item_tree i)) level) ended (terms + item_terms i)
+    → Reached (past ++ (x ∷ [])) around (with_item (nodes_of (item_tree i)) level) ended (terms + item_terms i)
 Reached-item past x around level next terms i is flat few h =
-    Reached-more past x around level (with_item (steps_of (item_tree i)) level) next ended terms (terms + item_terms i)
+    Reached-more past x around level (with_item (nodes_of (item_tree i)) level) next ended terms (terms + item_terms i)
     (h.here_terms + item_terms i) h
     (Has-at (Here-waits next (levels_depth around) h.here level h.here_terms h.inside i
     (deep level.negations (levels_depth around) (item_depth i) flat h.low))
@@ -441,7 +441,7 @@ At-close past around level touching terms t h e = absurd (none-some t e)
 At-close past [] level ended terms t h e = absurd (none-some t e)
 At-close past (o ∷ around) level ended terms t h e =
     let outside : Around h.outer (o ∷ around) h.outer_terms = h.outside in
-    At-some (past ++ (closes ∷ [])) (closed (level_steps level) o around (of (o ∷ around) level ended terms)) t e
+    At-some (past ++ (closes ∷ [])) (closed (level_nodes level) o around (of (o ∷ around) level ended terms)) t e
     (record {
       outer = outside.0;
       here = outside.1 ++ (opens ∷ (h.here ++ (closes ∷ [])));
@@ -485,7 +485,7 @@ At-or past around level first terms t h e = absurd (none-some t e)
 At-or past around level wanted terms t h e = absurd (none-some t e)
 At-or past around level touching terms t h e = absurd (none-some t e)
 At-or past around level ended terms t h e =
-    let begun : Level = level_at (level_steps level) [] in
+    let begun : Level = level_at (level_nodes level) [] in
     At-some (past ++ (word or_word ∷ [])) (of around begun wanted terms) t e
     (Reached-more past (word or_word) around level begun ended wanted terms terms h.here_terms h
     (Waits-or (levels_depth around) h.here level h.here_terms h.inside) h.terms_are
@@ -498,7 +498,7 @@ At-term past around level next terms t text None is h e = absurd (none-some t e)
 At-term past around level next terms t text (Some u) is h e = decided (nat_lt 127 terms) refl e
   where
     s : State
-    s = of around (with_item (step.Term u ∷ []) level) ended (terms + 1)
+    s = of around (with_item (node.Term u ∷ []) level) ended (terms + 1)
 
     decided : (b : Bool) → nat_lt 127 terms ≡ b → (if b then None else Some s) ≡ Some t
         → At (past ++ (word text ∷ [])) t
@@ -548,8 +548,8 @@ At-symbol past dash s t h e =
     (Waits-dash (levels_depth s.around) h.here s.level h.here_terms
     (Here-waits s.next (levels_depth s.around) h.here s.level h.here_terms h.inside)) e
 At-symbol past sample s t h e =
-    At-some (past ++ (sample ∷ [])) (after_item (steps_of (item_tree added)) s) t e
-    (subst (λ (n : ℕ). Reached (past ++ (sample ∷ [])) s.around (with_item (steps_of (item_tree added)) s.level) ended
+    At-some (past ++ (sample ∷ [])) (after_item (nodes_of (item_tree added)) s) t e
+    (subst (λ (n : ℕ). Reached (past ++ (sample ∷ [])) s.around (with_item (nodes_of (item_tree added)) s.level) ended
     n) (add-zero s.terms)
     (Reached-item past sample s.around s.level s.next s.terms added refl refl
     (subst (λ (n : ℕ). n ≤ 128) (sym (add-zero s.terms)) h.few) h))
@@ -566,29 +566,29 @@ At-symbols past (x ∷ symbols) s t h e =
 
 -- ---- the end
 
-query_of : (symbols : List Symbol) (around : List Level) (level : Level) (next : Next) (terms : ℕ) (steps : List Step)
-    → Reached symbols around level next terms → at_end next around level ≡ Some steps
-    → (t : Option Tree) × (steps ≡ all_steps t) × IsQuery symbols t
-query_of symbols (o ∷ around) level first terms steps h e = absurd (none-some steps e)
-query_of symbols (o ∷ around) level ended terms steps h e = absurd (none-some steps e)
-query_of symbols around level wanted terms steps h e = absurd (none-some steps e)
-query_of symbols around level touching terms steps h e = absurd (none-some steps e)
-query_of symbols [] level first terms steps h e =
+query_of : (symbols : List Symbol) (around : List Level) (level : Level) (next : Next) (terms : ℕ) (nodes : List Node)
+    → Reached symbols around level next terms → at_end next around level ≡ Some nodes
+    → (t : Option Tree) × (nodes ≡ all_nodes t) × IsQuery symbols t
+query_of symbols (o ∷ around) level first terms nodes h e = absurd (none-some nodes e)
+query_of symbols (o ∷ around) level ended terms nodes h e = absurd (none-some nodes e)
+query_of symbols around level wanted terms nodes h e = absurd (none-some nodes e)
+query_of symbols around level touching terms nodes h e = absurd (none-some nodes e)
+query_of symbols [] level first terms nodes h e =
     let outside : Around h.outer [] h.outer_terms = h.outside in
     let inside : Here first 0 h.here level h.here_terms = h.inside in (
       None,
-      sym (same_Some [] steps e),
+      sym (same_Some [] nodes e),
       (
         inside.0,
         h.past_is ∙ ap (λ (xs : List Symbol). xs ++ h.here) outside.0
             ∙ inside.1,
       ),
     )
-query_of symbols [] level ended terms steps h e =
+query_of symbols [] level ended terms nodes h e =
     let outside : Around h.outer [] h.outer_terms = h.outside in
     let inside : Has 0 h.here level h.here_terms = h.inside in (
       Some (any_tree inside.syntax),
-      sym (same_Some (level_steps level) steps e) ∙ level_steps-Has inside,
+      sym (same_Some (level_nodes level) nodes e) ∙ level_nodes-Has inside,
       (
         inside.before,
         inside.syntax,
@@ -620,8 +620,8 @@ At-start = record {
   few = omega arith;
 }
 
--- what is read to its end is a query, and has its steps
-pub found : (symbols : List Symbol) (s : State) (steps : List Step) → after_symbols start symbols ≡ Some s
-    → steps_read s ≡ Some steps → (t : Option Tree) × (steps ≡ all_steps t) × IsQuery symbols t
-found symbols s steps read e =
-    query_of symbols s.around s.level s.next s.terms steps (At-symbols [] symbols start s At-start read) e
+-- what is read to its end is a query, and has its nodes
+pub found : (symbols : List Symbol) (s : State) (nodes : List Node) → after_symbols start symbols ≡ Some s
+    → nodes_read s ≡ Some nodes → (t : Option Tree) × (nodes ≡ all_nodes t) × IsQuery symbols t
+found symbols s nodes read e =
+    query_of symbols s.around s.level s.next s.terms nodes (At-symbols [] symbols start s At-start read) e

@@ -6,9 +6,9 @@ use Rattle.std.proofs.Common.{length-append, arith}
 use Rattle.std.proofs.lemmas.List.{take_at, flat_map_more, drop-drop}
 use Rattle.std.specs.Option.{option_map_or}
 use Rattle.std.proofs.lemmas.Option.{none-some}
-use Rattle.cr_base.specs.declared.search.Step.{Step}
+use Rattle.cr_base.specs.declared.search.Node.{Node}
 use Rattle.cr_search_parse.specs.Grammar.{run_symbols, symbols_of}
-use Rattle.cr_search_parse.specs.Reading.{State, start, after_symbols, ended_at, runs_read, steps_read}
+use Rattle.cr_search_parse.specs.Reading.{State, start, after_symbols, ended_at, runs_read, nodes_read}
 use Rattle.cr_search_parse.specs.Runs.{Run, runs_of, run_length, runs_length}
 use Rattle.cr_search_parse.specs.Standing.{Refuses}
 use Rattle.cr_search_parse.specs.Stopping.{LeadTo, StopsAt, Gives, Reads, stopped_at}
@@ -72,13 +72,13 @@ read-front (run ∷ front) rest offset s t leads =
 
 -- all of them
 read-all : (runs : List Run) (s : State) → LeadTo runs s
-    → runs_read runs 0 start ≡ ended_at (runs_length runs) (steps_read s)
+    → runs_read runs 0 start ≡ ended_at (runs_length runs) (nodes_read s)
 read-all runs s leads =
     ap (λ (all : List Run). runs_read all 0 start) (sym (append-nil runs)) ∙ read-front runs [] 0 start s leads
-    ∙ ap (λ (n : ℕ). ended_at n (steps_read s)) (omega arith)
+    ∙ ap (λ (n : ℕ). ended_at n (nodes_read s)) (omega arith)
 
-pub gives-read : (runs : List Run) (steps : List Step) → Gives runs steps → runs_read runs 0 start ≡ Ok steps
-gives-read runs steps given = read-all runs given.0 given.1 ∙ ap (ended_at (runs_length runs)) given.2
+pub gives-read : (runs : List Run) (nodes : List Node) → Gives runs nodes → runs_read runs 0 start ≡ Ok nodes
+gives-read runs nodes given = read-all runs given.0 given.1 ∙ ap (ended_at (runs_length runs)) given.2
 
 pub stops-read : (runs : List Run) (offset : ℕ) → StopsAt runs offset → runs_read runs 0 start ≡ Err offset
 stops-read runs offset (inl stop) = stop.read
@@ -124,7 +124,7 @@ stops-before text at s run rest so falls stuck =
 all-runs : (text : List ℕ) (at : ℕ) (s : State) (so : ReadTo text at s) → drop at text ≡ [] → runs_of text ≡ so.runs
 all-runs text at s so none = so.falls ∙ (ap (λ (rest : List ℕ). so.runs ++ runs_of rest) none ∙ append-nil so.runs)
 
-pub stops-short : (text : List ℕ) (at : ℕ) (s : State) → ReadTo text at s → drop at text ≡ [] → steps_read s ≡ None
+pub stops-short : (text : List ℕ) (at : ℕ) (s : State) → ReadTo text at s → drop at text ≡ [] → nodes_read s ≡ None
     → StopsAt (runs_of text) at
 stops-short text at s so none short =
     let all = all-runs text at s so none in
@@ -135,9 +135,9 @@ stops-short text at s so none short =
       short = short;
     })
 
-pub gives-steps : (text : List ℕ) (at : ℕ) (s : State) (steps : List Step) → ReadTo text at s → drop at text ≡ []
-    → steps_read s ≡ Some steps → Gives (runs_of text) steps
-gives-steps text at s steps so none read =
+pub gives-nodes : (text : List ℕ) (at : ℕ) (s : State) (nodes : List Node) → ReadTo text at s → drop at text ≡ []
+    → nodes_read s ≡ Some nodes → Gives (runs_of text) nodes
+gives-nodes text at s nodes so none read =
     (s, ap (λ (runs : List Run). after_symbols start (symbols_of runs)) (all-runs text at s so none) ∙ so.leads, read)
 
 -- the same by how many bytes the run has
@@ -158,17 +158,17 @@ stop-reads text at s run rest stop.OutOfMemory so falls stuck = tt
 
 -- ---- all runs
 
--- reading them gives steps, or stops
+-- reading them gives nodes, or stops
 abbrev pub Ends : List Run → Type 0
-Ends runs = ((steps : List Step) × Gives runs steps) ⊎ ((offset : ℕ) × StopsAt runs offset)
+Ends runs = ((nodes : List Node) × Gives runs nodes) ⊎ ((offset : ℕ) × StopsAt runs offset)
 
-all-read : (runs : List Run) (s : State) → LeadTo runs s → (read : Option (List Step)) → steps_read s ≡ read → Ends runs
-all-read runs s leads (Some steps) is = inl (steps, (s, leads, is))
+all-read : (runs : List Run) (s : State) → LeadTo runs s → (read : Option (List Node)) → nodes_read s ≡ read → Ends runs
+all-read runs s leads (Some nodes) is = inl (nodes, (s, leads, is))
 all-read runs s leads None is =
     inr (runs_length runs, inr (record { there = refl; state = s; leads = leads; short = is }))
 
 ends-behind : (front rest : List Run) (s : State) → LeadTo front s → Ends (front ++ rest)
-ends-behind front [] s leads = subst Ends (sym (append-nil front)) (all-read front s leads (steps_read s) refl)
+ends-behind front [] s leads = subst Ends (sym (append-nil front)) (all-read front s leads (nodes_read s) refl)
 ends-behind front (run ∷ rest) s leads =
     one_more (after_symbols s (run_symbols run)) refl (λ t. ends-behind (front ++ (run ∷ [])) rest t)
   where

@@ -3,8 +3,8 @@
 use Rattle.std.specs.declared.alloc.Global.{Global}
 use Rattle.std.specs.Prelude.{◌≡◌, ◌≤◌, ℕ, ◌+◌, List, [], ◌∷◌, ◌++◌, length, replicate}
 use Rattle.std.specs.Prelude.{Option, Some, None, Result, Ok, Err, Vec, if◌then◌else◌, ◌==◌}
-use Rattle.cr_base.specs.declared.search.Step.{Step}
-use Rattle.cr_base.specs.declared.search.Step.TheVariants as step
+use Rattle.cr_base.specs.declared.search.Node.{Node}
+use Rattle.cr_base.specs.declared.search.Node.TheVariants as node
 use Rattle.cr_search_parse.specs.Reading.{State, Level, Next, first, ended, wanted, touching, depth, levels_depth}
 use Rattle.cr_search_parse.specs.declared.reader.Level.{Level as Counts}
 use Rattle.cr_search_parse.specs.declared.reader.Next.{Next as Told}
@@ -20,7 +20,7 @@ next_told told.Ended = ended
 next_told told.Wanted = wanted
 next_told told.Touching = touching
 
--- how many steps a level has
+-- how many nodes a level has, of its alternatives and its items, and how many negations wait
 abbrev pub counted : Level → Counts
 counted level =
     record { alternatives = length level.alternatives; items = length level.items; negations = level.negations }
@@ -30,13 +30,14 @@ abbrev pub all_counted : List Level → List Counts
 all_counted [] = []
 all_counted (level ∷ levels) = all_counted levels ++ (counted level ∷ [])
 
-abbrev pub steps_of_levels : List Level → List Step
-steps_of_levels [] = []
-steps_of_levels (level ∷ levels) = steps_of_levels levels ++ (level.alternatives ++ level.items)
+-- the nodes of all levels, the outermost first
+abbrev pub nodes_of_levels : List Level → List Node
+nodes_of_levels [] = []
+nodes_of_levels (level ∷ levels) = nodes_of_levels levels ++ (level.alternatives ++ level.items)
 
 -- the reader has this state: its nodes, its counts, what may come next and its terms are the state's
 pub record Stands (r : Reader) (s : State) : Type 0 where
-  pub steps : r.steps.items ≡ steps_of_levels (s.level ∷ s.around)
+  pub nodes : r.nodes.items ≡ nodes_of_levels (s.level ∷ s.around)
   pub around : r.around.items ≡ all_counted s.around
   pub level : r.level ≡ counted s.level
   pub next : s.next ≡ next_told r.next
@@ -48,9 +49,9 @@ pub record Stands (r : Reader) (s : State) : Type 0 where
 abbrev pub StandsForOne : Reader → Type 0
 StandsForOne r = (s : State) × Stands r s
 
--- what its steps and the negations that wait come to at most: it grows by two a symbol
+-- how many nodes the reader has at most in the end of what it has begun; it grows by at most two a symbol
 abbrev pub weight : Reader → ℕ
-weight r = length r.steps.items + (r.outside + r.level.negations)
+weight r = length r.nodes.items + (r.outside + r.level.negations)
 
 -- why a reader stopped: no state comes next, or memory ran out
 abbrev pub Refuses : Stop → Option State → Type 0
@@ -62,26 +63,26 @@ abbrev pub Takes : {A : Type 0} → Result A Stop → Reader → Option State �
 Takes (Ok done) r after = (s : State) × (after ≡ Some s) × Stands r s
 Takes (Err why) r after = Refuses why after
 
--- the same of the steps at the end
-abbrev pub TakesSteps : Result (Vec Step Global) Stop → Option (List Step) → Type 0
-TakesSteps (Ok steps) read = read ≡ Some steps.items
-TakesSteps (Err stop.Misplaced) read = read ≡ None
-TakesSteps (Err stop.OutOfMemory) read = Unit {0}
+-- the reader ended with these nodes, or stopped as `Refuses` says
+abbrev pub TakesNodes : Result (Vec Node Global) Stop → Option (List Node) → Type 0
+TakesNodes (Ok nodes) read = read ≡ Some nodes.items
+TakesNodes (Err stop.Misplaced) read = read ≡ None
+TakesNodes (Err stop.OutOfMemory) read = Unit {0}
 
--- the operation behind a second operand, where there is a first: so many steps they have
-abbrev pub operation_behind : ℕ → Step → List Step
+-- the operation that is written after the second operand, with its count of nodes; none if there is no first operand
+abbrev pub operation_behind : ℕ → Node → List Node
 operation_behind count operation = if count == 0 then [] else operation ∷ []
 
--- how many steps two operands have with their operation, or the second alone where there is no first
+-- how many nodes two operands have with their operation; only those of the second, if there is no first
 abbrev pub count_behind : ℕ → ℕ → ℕ
 count_behind count second = if count == 0 then second else count + second + 1
 
--- what is written behind an item of a level, which has so many steps
-abbrev pub behind_item : Counts → ℕ → List Step
+-- the nodes that are written after an item of a level, which has this many nodes
+abbrev pub behind_item : Counts → ℕ → List Node
 behind_item level count =
-    replicate level.negations step.Not ++ operation_behind level.items (step.And (count + level.negations))
+    replicate level.negations node.Not ++ operation_behind level.items (node.And (count + level.negations))
 
--- how many steps the level has then
+-- the counts of the level after that item
 abbrev pub counts_behind_item : Counts → ℕ → Counts
 counts_behind_item level count =
     record {

@@ -1,7 +1,7 @@
 // SPDX-License-Identifier: Apache-2.0 OR MIT
 //! From the text of a search to its tree.
 ghost use Rattle.std.specs.Prelude.{◌≡◌, ◌≤◌, ℕ, length, Option, Err, IfOk};
-ghost use Rattle.cr_base.specs.Search.{Tree, all_steps, tree_of};
+ghost use Rattle.cr_base.specs.Search.{Tree, all_nodes, tree_of};
 ghost use Rattle.cr_search_parse.specs.Outcome.{Parses};
 ghost use Rattle.cr_search_parse.specs.Offsets.{most_bytes, Spells, IsBad};
 ghost use Rattle.cr_search_parse.specs.Reading.{text_read};
@@ -10,7 +10,7 @@ ghost use Rattle.cr_search_parse.specs.declared.parsing.ParseError.TheVariants.{
 
 use crate::reader::{Reader, Stop};
 use crate::runs::first_run;
-use cr_base::{Search, Step};
+use cr_base::{Node, Search};
 use std::alloc::Global;
 
 /// How many bytes a query may have.
@@ -40,8 +40,8 @@ fn error_at(stop: Stop, offset: usize) -> ParseError
     }
 }
 
-/// Returns the steps of a text, or where reading stops.
-fn read_steps(alloc: Global, text: &[u8]) -> Result<Vec<Step>, ParseError>
+/// Returns the nodes of a text, or where reading stops.
+fn read_nodes(alloc: Global, text: &[u8]) -> Result<Vec<Node>, ParseError>
     requires { length text.now ≤ 1024 }
     ensures { Reads result text.now }
 {
@@ -55,7 +55,7 @@ fn read_steps(alloc: Global, text: &[u8]) -> Result<Vec<Step>, ParseError>
         }
     }
     match reader.finish() {
-        Ok(steps) => Ok(steps),
+        Ok(nodes) => Ok(nodes),
         Err(stop) => Err(error_at(stop, at)),
     }
 }
@@ -70,11 +70,11 @@ fn read_steps(alloc: Global, text: &[u8]) -> Result<Vec<Step>, ParseError>
 ///
 /// # Cost
 ///
-/// A few looks at each byte, and none at those of a longer text. Takes memory only for the steps, the terms and the
+/// A few looks at each byte, and none at those of a longer text. Takes memory only for the nodes, the terms and the
 /// open parentheses.
 pub fn parse(alloc: Global, text: &[u8]) -> Result<Search, ParseError>
     ensures found { IfOk result (λ search. Spells text.now (tree_of search)) }
-    ensures only { (tree : Option Tree) → Spells text.now tree → IsFound result (all_steps tree) }
+    ensures only { (tree : Option Tree) → Spells text.now tree → IsFound result (all_nodes tree) }
     ensures bad { (offset : ℕ) → result ≡ Err (BadQuery offset) → IsBad text.now offset }
     // What the text comes to, as a function of it.
     ensures exact { Parses result (text_read text.now) }
@@ -82,8 +82,8 @@ pub fn parse(alloc: Global, text: &[u8]) -> Result<Search, ParseError>
     if text.len() > MOST_BYTES {
         return Err(ParseError::BadQuery { offset: MOST_BYTES });
     }
-    match read_steps(alloc, text) {
-        Ok(steps) => Ok(Search::from_steps(steps)),
+    match read_nodes(alloc, text) {
+        Ok(nodes) => Ok(Search::from_nodes(nodes)),
         Err(error) => Err(error),
     }
 }

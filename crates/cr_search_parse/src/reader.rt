@@ -1,20 +1,20 @@
 // SPDX-License-Identifier: Apache-2.0 OR MIT
-//! A reader of searches: the steps are written as their operands end (Dijkstra's shunting-yard algorithm).
+//! A reader of searches: the nodes are written as their operands end (Dijkstra's shunting-yard algorithm).
 ghost use Rattle.std.specs.Prelude.{◌≡◌, ◌≤◌, ◌<◌, ◌+◌, ◌*◌, ◌++◌, length, replicate, Some, IfOk, OnOk};
-ghost use Rattle.cr_base.specs.declared.search.Step.TheVariants as step;
+ghost use Rattle.cr_base.specs.declared.search.Node.TheVariants as node;
 ghost use Rattle.cr_search_parse.specs.Grammar.{gap, opens, closes, chunk_symbols, run_symbols};
 ghost use Rattle.cr_search_parse.specs.Cutting.{run_told};
 ghost use Rattle.cr_search_parse.specs.Runs.{run_length};
 ghost use Rattle.cr_search_parse.specs.Reading.{State, start, one_negation_more, if_shallow};
 ghost use Rattle.cr_search_parse.specs.Reading.{after_and, after_or, after_term};
-ghost use Rattle.cr_search_parse.specs.Reading.{after_word, after_symbol, after_symbols, steps_read};
-ghost use Rattle.cr_search_parse.specs.Standing.{Stands, StandsForOne, weight, Takes, TakesSteps, next_told};
+ghost use Rattle.cr_search_parse.specs.Reading.{after_word, after_symbol, after_symbols, nodes_read};
+ghost use Rattle.cr_search_parse.specs.Standing.{Stands, StandsForOne, weight, Takes, TakesNodes, next_told};
 ghost use Rattle.cr_search_parse.specs.Standing.{operation_behind, count_behind, behind_item, counts_behind_item};
 ghost use Rattle.cr_search_parse.specs.Terms.{term_of};
 
 use crate::runs::Run;
 use crate::terms::{is_and, is_not, is_or, read_term};
-use cr_base::{Step, Term};
+use cr_base::{Node, Term};
 use std::alloc::{AllocError, AllocFailed, Global};
 
 /// How many dashes, `NOT`s and parentheses an item may be inside of.
@@ -67,7 +67,7 @@ enum Next {
     Touching,
 }
 
-/// What was read between two parentheses, in steps of the reader's: those of the alternatives that have ended, and
+/// What was read between two parentheses, in nodes of the reader's: those of the alternatives that have ended, and
 /// after them those of the items that have.
 #[derive(Clone, Copy)]
 struct Level {
@@ -77,11 +77,11 @@ struct Level {
     negations: u16,
 }
 
-/// A reader. Its steps are those of its levels, the outermost first.
+/// A reader. Its nodes are those of its levels, the outermost first.
 #[derive(Drop)]
 pub(crate) struct Reader {
     alloc: Global,
-    steps: Vec<Step>,
+    nodes: Vec<Node>,
     /// The levels around the one that is read, the outermost first.
     around: Vec<Level>,
     level: Level,
@@ -103,27 +103,27 @@ fn no_level() -> Level
 }
 
 /// Adds so many negations.
-fn push_negations(steps: &mut Vec<Step>, count: u16) -> Result<(), AllocError>
-    ensures { OnOk result (steps.new.items ≡ steps.old.items ++ replicate count step.Not) }
+fn push_negations(nodes: &mut Vec<Node>, count: u16) -> Result<(), AllocError>
+    ensures { OnOk result (nodes.new.items ≡ nodes.old.items ++ replicate count node.Not) }
 {
     for _ in 0..count {
-        steps.push(Step::Not)?;
+        nodes.push(Node::Not)?;
     }
     Ok(())
 }
 
-/// Adds an operation after its second operand, if there is a first one, which has so many steps.
-fn push_behind(steps: &mut Vec<Step>, first: u16, operation: Step) -> Result<(), AllocError>
-    ensures { OnOk result (steps.new.items ≡ steps.old.items ++ operation_behind first operation) }
+/// Adds an operation after its second operand, if there is a first one, which has so many nodes.
+fn push_behind(nodes: &mut Vec<Node>, first: u16, operation: Node) -> Result<(), AllocError>
+    ensures { OnOk result (nodes.new.items ≡ nodes.old.items ++ operation_behind first operation) }
 {
     if first == 0 {
         return Ok(());
     }
-    steps.push(operation)?;
+    nodes.push(operation)?;
     Ok(())
 }
 
-/// Returns how many steps these two operands are with their operation.
+/// Returns how many nodes these two operands are with their operation.
 fn count_behind(first: u16, second: u16) -> u16
     requires { first + second < 65535 }
     ensures { result ≡ count_behind first second }
@@ -134,32 +134,32 @@ fn count_behind(first: u16, second: u16) -> u16
     first + second + 1
 }
 
-/// Ends a level, whose steps come last, and gives their number.
-fn end_level(steps: &mut Vec<Step>, level: Level) -> Result<u16, AllocError>
+/// Ends a level, whose nodes come last, and gives their number.
+fn end_level(nodes: &mut Vec<Node>, level: Level) -> Result<u16, AllocError>
     requires { level.alternatives + level.items < 65535 }
-    ensures steps { OnOk result (steps.new.items
-        ≡ steps.old.items ++ operation_behind level.alternatives (step.Or level.items)) }
+    ensures nodes { OnOk result (nodes.new.items
+        ≡ nodes.old.items ++ operation_behind level.alternatives (node.Or level.items)) }
     ensures count { IfOk result (λ count. count ≡ count_behind level.alternatives level.items) }
 {
     push_behind(
-        steps,
+        nodes,
         level.alternatives,
-        Step::Or {
+        Node::Or {
             second: level.items,
         },
     )?;
     Ok(count_behind(level.alternatives, level.items))
 }
 
-/// Ends an item of a level, which has so many steps, the last ones.
-fn end_item(steps: &mut Vec<Step>, level: Level, count: u16) -> Result<Level, AllocError>
+/// Ends an item of a level, which has so many nodes, the last ones.
+fn end_item(nodes: &mut Vec<Node>, level: Level, count: u16) -> Result<Level, AllocError>
     requires { level.items + (count + level.negations) < 65535 }
-    ensures steps { OnOk result (steps.new.items ≡ steps.old.items ++ behind_item level count) }
+    ensures nodes { OnOk result (nodes.new.items ≡ nodes.old.items ++ behind_item level count) }
     ensures level { IfOk result (λ after. after ≡ counts_behind_item level count) }
 {
-    push_negations(steps, level.negations)?;
+    push_negations(nodes, level.negations)?;
     let second = count + level.negations;
-    push_behind(steps, level.items, Step::And { second })?;
+    push_behind(nodes, level.items, Node::And { second })?;
     Ok(Level {
         alternatives: level.alternatives,
         items: count_behind(level.items, second),
@@ -179,7 +179,7 @@ impl Reader {
     {
         Reader {
             alloc,
-            steps: Vec::new(alloc),
+            nodes: Vec::new(alloc),
             around: Vec::new(alloc),
             level: no_level(),
             next: Next::First,
@@ -231,8 +231,8 @@ impl Reader {
         let Some(around) = self.around.pop() else {
             return Err(Stop::Misplaced);
         };
-        let count = end_level(&mut self.steps, self.level)?;
-        self.level = end_item(&mut self.steps, around, count)?;
+        let count = end_level(&mut self.nodes, self.level)?;
+        self.level = end_item(&mut self.nodes, around, count)?;
         self.outside -= around.negations + 1;
         Ok(())
     }
@@ -277,7 +277,7 @@ impl Reader {
         let Next::Ended = self.next else {
             return Err(Stop::Misplaced);
         };
-        let alternatives = end_level(&mut self.steps, self.level)?;
+        let alternatives = end_level(&mut self.nodes, self.level)?;
         self.level = Level {
             alternatives,
             items: 0,
@@ -297,8 +297,8 @@ impl Reader {
         if self.terms >= MOST_TERMS {
             return Err(Stop::Misplaced);
         }
-        self.steps.push(Step::Term(term))?;
-        self.level = end_item(&mut self.steps, self.level, 1)?;
+        self.nodes.push(Node::Term(term))?;
+        self.level = end_item(&mut self.nodes, self.level, 1)?;
         self.next = Next::Ended;
         self.terms += 1;
         Ok(())
@@ -369,15 +369,15 @@ impl Reader {
         }
     }
 
-    /// Returns the steps of what was read, if it may end so.
-    pub(crate) fn finish(self) -> Result<Vec<Step>, Stop>
+    /// Returns the nodes of what was read, if it may end so.
+    pub(crate) fn finish(self) -> Result<Vec<Node>, Stop>
         requires stands { StandsForOne self }
         requires light { weight self < 60000 }
-        ensures { (s : State) → Stands self s → TakesSteps result (steps_read s) }
+        ensures { (s : State) → Stands self s → TakesNodes result (nodes_read s) }
     {
         let Reader {
             alloc,
-            mut steps,
+            mut nodes,
             around,
             level,
             next,
@@ -390,8 +390,8 @@ impl Reader {
         match next {
             Next::First => Ok(Vec::new(alloc)),
             Next::Ended => {
-                let _ = end_level(&mut steps, level)?;
-                Ok(steps)
+                let _ = end_level(&mut nodes, level)?;
+                Ok(nodes)
             }
             _ => Err(Stop::Misplaced),
         }

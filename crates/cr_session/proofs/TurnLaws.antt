@@ -36,7 +36,7 @@ use Rattle.cr_wire.specs.declared.what.What.{What}
 use Rattle.cr_wire.specs.declared.what.What.TheVariants as whats
 use Rattle.cr_wire.specs.declared.what.Wish.{Wish}
 use Rattle.cr_wire.specs.Bounds.{IsKeyFor}
-use Rattle.cr_wire.specs.Caller.{caller, reads_credentials, user_told}
+use Rattle.cr_wire.specs.Caller.{caller, wants_login, user_told}
 use Rattle.cr_book.specs.Sound.{Acts}
 use Rattle.cr_session.specs.declared.turn.TurnResult.{TurnResult}
 use Rattle.cr_session.specs.declared.turn.TurnResult.TheVariants as turns
@@ -287,7 +287,7 @@ reads-user false told H v e = absurd (cc)
 
 -- a caller has registered
 caller-registered : (H : History) (w : Wish) (v : ℕ) → caller H w ≡ Some v → IsUser H (Some v)
-caller-registered H w v e = reads-user (reads_credentials w.what) w.credentials H v e
+caller-registered H w v e = reads-user (wants_login w.what) w.credentials H v e
 
 -- who asks a query has registered, where it wants a login
 pub may-query : (H : History) (w : Wish) (u : Option ℕ) (query : Query) → MayWish H w u (whats.Query query)
@@ -307,7 +307,7 @@ pub caller-command : (H : History) (w : Wish) (u : Option ℕ) (key : Option Ret
     → MayWish H w u (whats.Command key command)
     → IsCaller H u command
 caller-command H w u key (Register name digest) wishes =
-    wishes.by ∙ ap (λ (x : What). cond (reads_credentials x) (user_told w.credentials H) None) wishes.is
+    wishes.by ∙ ap (λ (x : What). cond (wants_login x) (user_told w.credentials H) None) wishes.is
 caller-command H w u key (Tag paper tag true) wishes = is-user H w u key (Tag paper tag true) refl wishes
 caller-command H w u key (Tag paper tag false) wishes = is-user H w u key (Tag paper tag false) refl wishes
 caller-command H w u key command wishes = is-user H w u key command refl wishes

@@ -19,12 +19,13 @@ pub fn law_two_runs()
 {}
 
 /// A command or a bulk that its caller sends again, with its number and its mark, acts once, on every legal history and
-/// whatever any caller asks. If each wish is left out whose caller, number and mark an earlier one has that was accepted
-/// and added something, all ends in the same history. Earlier are the wishes of the list and all that the opening history
-/// has: this holds after a restart too. A wish that is left out is answered by what the earlier one added: a bulk by how
-/// many entries, every other command by the first of them. If the earlier one is a wish of the list too, and both are
-/// bulks, or neither is, these are the bytes of its answer, except its Date and its Connection. This holds whatever comes
-/// between, also if the caller has lost the right meanwhile. Nothing that is accepted is lost here.
+/// whatever any caller asks. If each wish is left out whose caller, number and mark an earlier one has that was
+/// accepted and added something, all ends in the same history. Earlier are the wishes of the list and all that the
+/// opening history has: this holds after a restart too. A wish that is left out is answered by what the earlier one
+/// added: a bulk by how many entries, every other command by the first of them. If the earlier one is a wish of the
+/// list too, and both are bulks, or neither is, these are the bytes of its answer, except its Date and its Connection.
+/// This holds whatever comes between, also if the caller has lost the right meanwhile. Nothing that is accepted is lost
+/// here.
 pub fn law_repeats()
     ensures { RetriesActOnce }
 {}

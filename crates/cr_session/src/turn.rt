@@ -108,11 +108,11 @@ fn is_unauthorized<K: Keeper>(book: &Book<K>, caller: &Option<UserNo>, what: &Wh
     }
 }
 
-/// Returns who gives the wish: nobody, where its request doesn't read the credentials.
+/// Returns who gives the wish: nobody, where its request wants no login.
 fn caller_of<K: Keeper>(book: &Book<K>, wish: &Wish) -> Option<UserNo>
     ensures { result ≡ caller book.now.log wish.now }
 {
-    if !wish.what.reads_credentials() {
+    if !wish.what.wants_login() {
         return None;
     }
     let credentials = wish.credentials.as_ref()?;

@@ -4,16 +4,13 @@ use Rattle.std.proofs.Common.{◌≡◌, ◌∙◌, ℕ, ◌+◌, ◌<◌, ◌�
 use Rattle.std.proofs.Common.{get_or, eqb, refl, sym, ap, subst, arith}
 use Rattle.std.specs.Prelude.{not, ◌||◌, slice_index, Option, Some, None}
 use Rattle.std.proofs.lemmas.Bool.{ne_eqb}
-use Rattle.std.proofs.lemmas.Bool.Decides.{nat_tests}
 use Rattle.std.proofs.lemmas.List.{length-take-le}
 use Rattle.cr_base.specs.declared.entry.Stamped.{Stamped}
 use Rattle.cr_base.specs.Lists.{is_number}
 use Rattle.cr_base.specs.History.{History}
+use Rattle.cr_base.proofs.Small.{eqb-self}
 use Rattle.cr_sights.specs.Series.{is_of, some_of, none_of, last_place, AreLast, is_last_at}
 use Rattle.cr_sights.proofs.Around.{one_more}
-
-pub eqb-same : (n : ℕ) → eqb n n ≡ true
-eqb-same n = grind (arith, nat_tests)
 
 -- ---- the last of a series
 
@@ -65,7 +62,7 @@ module _ (k : ℕ) where
   still-last d n H below = by (some_of k H) refl
     where
       by : (b : Bool) → some_of k H ≡ b → eqb (last_place k d n H) d ≡ not (some_of k H)
-      by false none = ap (λ (m : ℕ). eqb m d) (kept d n H none) ∙ eqb-same d ∙ sym (ap not none)
+      by false none = ap (λ (m : ℕ). eqb m d) (kept d n H none) ∙ eqb-self d ∙ sym (ap not none)
       by true some = ne_eqb (last_place k d n H) d (let h = moved d n H some in λ e. omega (arith, e, h))
           ∙ sym (ap not some)
 
@@ -101,7 +98,7 @@ pub none-behind : (places : List ℕ) (before : History) (e : Stamped) (after : 
     → AreLast places (before ++ e ∷ after) → none_of series after ≡ is_last_at places series (length before + 1)
 none-behind places before e after None of last = refl
 none-behind places before e after (Some k) of last =
-    sym (ap (λ (n : ℕ). eqb n (length before + 1)) (last k) ∙ last-here k before e after (of k ∙ eqb-same k))
+    sym (ap (λ (n : ℕ). eqb n (length before + 1)) (last k) ∙ last-here k before e after (of k ∙ eqb-self k))
 
 -- one more entry is noted
 pub noted : (old new : List ℕ) (H : History) (e : Stamped) (series : Option ℕ)

@@ -11,14 +11,16 @@ use Rattle.cr_base.specs.declared.entry.Entry.{Entry}
 use Rattle.cr_base.specs.declared.entry.Entry.TheVariants.{PhaseSet}
 use Rattle.cr_base.specs.declared.entry.Stamped.{Stamped}
 use Rattle.cr_base.specs.declared.words.Phase.{Phase}
-use Rattle.cr_base.specs.declared.words.Phase.TheVariants.{Response, Discussion}
+use Rattle.cr_base.specs.declared.words.Phase.TheVariants.{Response}
 use Rattle.cr_base.specs.Lists.{is_number, until}
 use Rattle.cr_base.specs.History.{History, opens, opens_discussion, opens_response}
+use Rattle.cr_base.specs.Phases.{committee_reads_from}
+use Rattle.cr_base.proofs.Small.{eqb-self}
 use Rattle.cr_policy.specs.Triggers.{Around, Position, none_alike, position_of}
 use Rattle.cr_sights.specs.Series.{AreLast, is_last_at, is_of, none_of}
 use Rattle.cr_sights.specs.Positions.{IsPositionIn}
 use Rattle.cr_sights.proofs.Around.{split_here}
-use Rattle.cr_sights.proofs.PlaceLaws.{eqb-same, none-behind, none-passed}
+use Rattle.cr_sights.proofs.PlaceLaws.{none-behind, none-passed}
 
 -- ---- the first that passes a test
 
@@ -91,7 +93,7 @@ module _ (log : History) (at : ℕ) (d : Stamped) (within : at < length log) whe
       (subst (AreLast early)
       (ap (until (opens_it phase)) (split_here log at d within)
       ∙ until-behind (opens_it phase) (take at log) here (drop (at + 1) log) none
-      (opens-none phase k here.entry (of k ∙ eqb-same k))) last)
+      (opens-none phase k here.entry (of k ∙ eqb-self k))) last)
       ∙ ap (λ (n : ℕ). is_last_at early (Some k) (n + 1)) at-length
 
   -- the phase was opened before it
@@ -157,11 +159,12 @@ module _ (log : History) (at : ℕ) (d : Stamped) (within : at < length log) whe
 
         discussion-is : (not (list_any opens_discussion place.before) && none_alike here.entry
             (until opens_discussion place.after)) ≡ position.last_before_discussion
-        discussion-is = before-here Discussion before_discussion n position.last_before_discussion ends_discussion
+        discussion-is =
+            before-here committee_reads_from before_discussion n position.last_before_discussion ends_discussion
             discussion_at last_discussion
 
         from-is : list_any opens_discussion place.before ≡ position.from_discussion
-        from-is = from-here Discussion n discussion_at ∙ sym from
+        from-is = from-here committee_reads_from n discussion_at ∙ sym from
 
         same : position_of place here.entry ≡ position
         same = rw (

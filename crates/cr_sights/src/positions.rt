@@ -8,7 +8,7 @@ ghost use Rattle.cr_sights.specs.Positions.{AreNoted, IsPositionIn};
 use crate::places::Places;
 use crate::position::Position;
 use crate::series::series;
-use cr_base::{Entry, Phase, Stamped};
+use cr_base::{COMMITTEE_READS_FROM, Entry, Phase, Stamped};
 use std::alloc::{AllocError, Global};
 
 /// The place of each entry of a history in its series, as a walk comes to it: the last places of series among the
@@ -36,7 +36,7 @@ impl Positions {
         ensures { IfOk result (λ positions. AreNoted positions log.now 0) }
     {
         let response_at = opening(log, Phase::Response);
-        let discussion_at = opening(log, Phase::Discussion);
+        let discussion_at = opening(log, COMMITTEE_READS_FROM);
         let all = Places::of(alloc, log)?;
         let before_response = Places::of(alloc, &log[..response_at])?;
         let before_discussion = Places::of(alloc, &log[..discussion_at])?;

@@ -16,7 +16,7 @@ ghost use Rattle.cr_tags.specs.Room.{paper_tagged, TagsHaveRoom};
 
 use crate::order::compare;
 use cr_base::{Entry, PaperNo, Rule, SetTag, Stamped, Standing, Steps, Tag, TagList, UserNo};
-use cr_kept::Files;
+use cr_kept::Cabinet;
 use std::alloc::{AllocError, Global};
 use std::marker::Model;
 use std::sync::ledger::Ledger;
@@ -30,7 +30,7 @@ use std::sync::ledger::Ledger;
 #[derive(Drop)]
 pub struct Tags {
     alloc: Global,
-    tags: Files<SetTag>,
+    tags: Cabinet<SetTag>,
 }
 
 impl Model for Tags {
@@ -120,7 +120,7 @@ impl Tags {
     {
         Tags {
             alloc,
-            tags: Files::new(alloc),
+            tags: Cabinet::new(alloc),
         }
     }
 

@@ -10,7 +10,7 @@ ghost use Rattle.cr_base.specs.Talk.{no_talk, talk_after, comments_in, own_comme
 ghost use Rattle.cr_talk.specs.Room.{paper_commented, paper_responded, TalkHasRoom};
 
 use cr_base::{Comment, Entry, PaperNo, Rule, Stamped, Standing, Steps, Text, UserNo};
-use cr_kept::{Files, Sums};
+use cr_kept::{Cabinet, Sums};
 use std::alloc::{AllocError, Global};
 use std::marker::Model;
 use std::sync::ledger::Ledger;
@@ -27,11 +27,11 @@ pub const MOST_OWN_COMMENTS: u64 = 1_000;
 #[derive(Drop)]
 pub struct Talk {
     alloc: Global,
-    comments: Files<Comment>,
+    comments: Cabinet<Comment>,
     // How many each user has written.
     written: Sums,
     // One at most of each paper.
-    responses: Files<Text>,
+    responses: Cabinet<Text>,
 }
 
 impl Model for Talk {
@@ -61,9 +61,9 @@ impl Talk {
     {
         Talk {
             alloc,
-            comments: Files::new(alloc),
+            comments: Cabinet::new(alloc),
             written: Sums::new(alloc),
-            responses: Files::new(alloc),
+            responses: Cabinet::new(alloc),
         }
     }
 

@@ -17,6 +17,7 @@ use Rattle.cr_base.specs.Lists.{given, is_nothing, is_number, listed}
 use Rattle.cr_base.specs.Drawn.{stamped}
 use Rattle.cr_base.specs.History.{History, declared_told}
 use Rattle.cr_base.specs.HistoryFacts.{phase_of, role_of, is_author, is_conflict_on, declared_by_authors}
+use Rattle.cr_base.proofs.Small.{implies_from}
 use Rattle.cr_history.specs.Invariants.{IsRegistered, IsSubmitted}
 use Rattle.cr_policy.specs.Legal.{Legal}
 use Rattle.cr_policy.specs.Part as part
@@ -172,21 +173,21 @@ module _ (u : Option ℕ) (H : History) (legal : Legal H) (before after : View) 
           ∙ final a n m w (oversees u paper H) (lists (conflicts_given u H) (eqb paper))
           (lists (page_told (λ page. page.conflicts) u paper H) (is_name_of (Some user) u H))
           (lists (page_told (λ page. page.declared) u paper H) (is_name_of (Some user) u H)) on none named-by-one told
-          (implies (on && none && n && not a) (lists (conflicts_given u H) (eqb paper))
+          (implies_from (on && none && n && not a) (lists (conflicts_given u H) (eqb paper))
           (λ h. let first = and_parts (on && none && n) (not a) h in
           let second = and_parts (on && none) n first.0 in
           let third = and_parts on none second.0 in
           hers second.1 (not-true a first.1) (in-conflict third.0 third.1)))
-          (implies (on && none && oversees u paper H)
+          (implies_from (on && none && oversees u paper H)
           (lists (page_told (λ page. page.conflicts) u paper H) (is_name_of (Some user) u H))
           (λ h. let first = and_parts (on && none) (oversees u paper H) h in
           let second = and_parts on none first.0 in
           overseen first.1 (in-conflict second.0 second.1)))
-          (implies (a && named-by-one) (lists (page_told (λ page. page.declared) u paper H)
+          (implies_from (a && named-by-one) (lists (page_told (λ page. page.declared) u paper H)
           (is_name_of (Some user) u H))
           (λ h. declared (and_parts a named-by-one h).0 (and_parts a named-by-one h).1))
-          (implies w named-by-one listed-there)
-          (implies (m && a) w
+          (implies_from w named-by-one listed-there)
+          (implies_from (m && a) w
           (λ h. ap (λ v. is_author v paper H) (sym (number-is u stamp.maker (and_parts m a h).0))
           ∙ (and_parts m a h).1))
           (apart (is_on_committee (role_of u H) && is_past_submission (phase_of H)) a (is_conflict_on u paper H)
@@ -199,10 +200,6 @@ module _ (u : Option ℕ) (H : History) (legal : Legal H) (before after : View) 
               by : (s l : Bool) → not ((s && false) && l) ≡ true
               by s l = grind (arith)
           apart s false c l = refl
-
-          implies : (x y : Bool) → (x ≡ true → y ≡ true) → (not x || y) ≡ true
-          implies true y h = h refl
-          implies false y h = refl
 
           final : (a n m w o me page said on none by-one : Bool) → (((n || m) || (a && w)) || o) ≡ true
               → (not (((on && none) && n) && not a) || me) ≡ true → (not ((on && none) && o) || page) ≡ true

@@ -6,7 +6,7 @@ use Rattle.std.specs.Prelude.{not, map, filter, ◌==◌, IsTrue, is_some, nat_e
 use Rattle.std.specs.Option.{option_map}
 use Rattle.std.specs.Str.{bytes_eq}
 use Rattle.std.specs.List.{flat_map, list_any}
-use Rattle.std.proofs.lemmas.Bool.{true≢false, eq-eqb, eqb-true, or_left, or_right}
+use Rattle.std.proofs.lemmas.Bool.{true≢false, eq-eqb, eqb-true, or_left, or_right, and_right}
 use Rattle.std.proofs.lemmas.List.Folds.{list_any-append}
 use Rattle.cr_base.specs.declared.entry.Entry.TheVariants.{Assigned, Unassigned}
 use Rattle.cr_base.specs.declared.entry.EntryKind.TheVariants as kinds
@@ -169,10 +169,7 @@ module _ (u : Option ℕ) (H : History) (legal : Legal H) (before after : View) 
           by n m l d a h = grind (arith, h)
 
       not-hers : n ≡ false → is_user u s.user ≡ false
-      not-hers f = hers ∙ by names n f
-        where
-          by : (k n : Bool) → n ≡ false → (k && n) ≡ false
-          by k n h = grind (arith, h)
+      not-hers f = hers ∙ and_right names n f
 
       abbrev again : Bool
       again = not (is_nothing (shown_of u paper (λ (t : Sighting). ordinal_by t.kind t.ordinal) after))

@@ -19,6 +19,7 @@ use Rattle.cr_base.specs.HistoryFacts.{role_of, tags_left}
 use Rattle.cr_base.specs.TagTexts.{is_private, is_for_chairs, is_tilded}
 use Rattle.cr_base.specs.Tags.{tag_before, with_tag, is_tag_for, is_owner, tags_for}
 use Rattle.cr_base.proofs.TagLaws.{tag_before-level}
+use Rattle.cr_base.proofs.Small.{implies_from}
 use Rattle.cr_history.specs.Invariants.{IsSubmitted}
 use Rattle.cr_policy.specs.Legal.{Legal}
 use Rattle.cr_policy.specs.Part as part
@@ -318,16 +319,12 @@ module _ (u : Option ℕ) (H : History) (legal : Legal H) (before after : View) 
       tagged =
           final on standing-tags again (is_number u stamp.maker) (is_eligible u paper H) (is_committees tag)
           (is_chairs tag) lead told
-          (implies (on && not again && is_eligible u paper H && not once-chair) standing-tags
+          (implies_from (on && not again && is_eligible u paper H && not once-chair) standing-tags
           (λ h. let first = and_parts (on && not again && is_eligible u paper H) (not once-chair) h in
           let second = and_parts (on && not again) (is_eligible u paper H) first.0 in
           let third = and_parts on (not again) second.0 in
           stands-on third.0 (not-true again third.1) second.1 (not-true once-chair first.1)))
         where
-          implies : (x y : Bool) → (x ≡ true → y ≡ true) → (not x || y) ≡ true
-          implies true y h = h refl
-          implies false y h = refl
-
           final : (on L X m h t k l : Bool) → (m || ((t && h) || (k && (h && l)))) ≡ true
               → (not (((on && not X) && h) && not ((m && k) && not l)) || L) ≡ true
               → ((on && L) || (((not on || X) || (m && not h)) || ((m && k) && not l))) ≡ true

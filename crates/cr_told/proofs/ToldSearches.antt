@@ -11,7 +11,7 @@ use Rattle.cr_base.specs.declared.page.Page.{Page}
 use Rattle.cr_base.specs.declared.reply.Reply.{Reply}
 use Rattle.cr_base.specs.declared.reply.Reply.TheVariants as replies
 use Rattle.cr_base.specs.declared.reply.Rule.TheVariants as rules
-use Rattle.cr_base.specs.declared.search.Step.{Step}
+use Rattle.cr_base.specs.declared.search.Node.{Node}
 use Rattle.cr_base.specs.declared.standing.Standing.{Standing}
 use Rattle.cr_base.specs.declared.words.Mode.{Mode}
 use Rattle.cr_base.specs.declared.words.Phase.{Phase}
@@ -88,7 +88,7 @@ response-read reply = refl
 -- ---- the papers
 
 -- what is found is the same, where the same is told of each paper that is there
-same-found : (f g : ℕ → PaperTold) (search : List Step) (ps : List ℕ)
+same-found : (f g : ℕ → PaperTold) (search : List Node) (ps : List ℕ)
     → ((p : ℕ) → list_any (λ q. q == p) ps ≡ true → f p ≡ g p)
     → map (λ (p : ℕ). found_paper p (f p)) (filter (λ (p : ℕ). is_found (f p) search) ps)
     ≡ map (λ (p : ℕ). found_paper p (g p)) (filter (λ (p : ℕ). is_found (g p) search) ps)
@@ -160,7 +160,7 @@ module _ (u : Option ℕ) (H : History) where
           (hidden by.phase by.mode by.role by.author by.conflicted by.reviewer by.external (is_accepted_in_view p V) p
           texts)
 
-  found-same : (search : List Step)
+  found-same : (search : List Node)
       → map (λ (p : ℕ). found_paper p (told_of_paper F S u p))
       (filter (λ (p : ℕ). is_found (told_of_paper F S u p) search) (papers_in_view V)) ≡ papers_found u H search
   found-same search = same-found (λ p. told_of_paper F S u p) (told_in_answers u H) search (papers_in_view V) told-same

@@ -7,7 +7,7 @@ use Rattle.cr_base.specs.declared.command.Query.TheVariants as queries
 use Rattle.cr_base.specs.declared.found.FoundPaper.{FoundPaper}
 use Rattle.cr_base.specs.declared.page.Page.{Page}
 use Rattle.cr_base.specs.declared.reply.Reply.TheVariants as replies
-use Rattle.cr_base.specs.declared.search.Step.{Step}
+use Rattle.cr_base.specs.declared.search.Node.{Node}
 use Rattle.cr_base.specs.History.{History}
 use Rattle.cr_base.specs.Searching.{PaperTold, is_found, found_paper}
 use Rattle.cr_policy.specs.Judge.{answer}
@@ -51,16 +51,16 @@ told_in_answers u H p = record {
 }
 
 -- the papers of which the search holds, as they are told, by number
-abbrev pub papers_found : Option ℕ → History → List Step → List FoundPaper
+abbrev pub papers_found : Option ℕ → History → List Node → List FoundPaper
 papers_found u H search =
     map (λ (p : ℕ). found_paper p (told_in_answers u H p))
     (filter (λ (p : ℕ). is_found (told_in_answers u H p) search) (papers_in_view (view u H)))
 
--- they are found, and counted, whoever asks
-pub record SearchTold (u : Option ℕ) (H : History) (search : List Step) : Type 0 where
+-- the search is answered with these papers, or with how many they are
+pub record SearchTold (u : Option ℕ) (H : History) (search : List Node) : Type 0 where
   pub found : answer u (view u H) (queries.Search search false) ≡ replies.Found (papers_found u H search)
   pub counted : answer u (view u H) (queries.Search search true) ≡ replies.Count (length (papers_found u H search))
 
 -- SearchTold holds of every caller and every search on every history
 abbrev pub SearchesTold : Type 0
-SearchesTold = (u : Option ℕ) (H : History) (search : List Step) → SearchTold u H search
+SearchesTold = (u : Option ℕ) (H : History) (search : List Node) → SearchTold u H search

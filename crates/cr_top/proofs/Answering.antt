@@ -3,6 +3,7 @@
 use Rattle.std.proofs.Common.{◌≡◌, ◌∙◌, ◌⊎◌, ◌+◌, ℕ, List, [], ◌∷◌, ◌++◌, Bool, true, false, cond, Some, None, refl}
 use Rattle.std.proofs.Common.{sym, ap, subst, inl, inr, append-nil, arith}
 use Rattle.std.specs.Prelude.{◌<◌, ◌-◌, ◌^◌, Option, nat_lt}
+use Rattle.std.proofs.lemmas.Bool.{ltb-true}
 use Rattle.cr_base.specs.Lists.{listed}
 use Rattle.cr_base.specs.declared.row.Row.{Row}
 use Rattle.cr_base.specs.History.{History}
@@ -152,16 +153,13 @@ below_last n e = grind arith
 not_below : (m n : ℕ) → nat_lt m n ≡ false → m < n → ⊥
 not_below m n e lt = grind arith
 
-below : (m n : ℕ) → nat_lt m n ≡ true → m < n
-below m n e = grind arith
-
 -- where the keeper's count didn't rise, nothing was lost
 pub nothing_lost : (judged : List JudgedWish) (b b' : Ledger) → Replays judged b b' → (Rises b.faults b'.faults → ⊥)
     → lost_count judged ≡ 0
 nothing_lost judged b b' r idle = last (nat_lt b'.faults (2 ^ 64 - 1)) refl
   where
     count : b'.faults < 2 ^ 64 - 1 → (t : Bool) → nat_lt b.faults b'.faults ≡ t → lost_count judged ≡ 0
-    count lt true e = absurd (idle (λ is. below b.faults b'.faults e))
+    count lt true e = absurd (idle (λ is. ltb-true b.faults b'.faults e))
     count lt false e =
         let most = counted judged b b' r lt in
         let same = not_below b.faults b'.faults e in

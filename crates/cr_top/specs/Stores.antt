@@ -61,8 +61,8 @@ pub record OpensStore {K : Type 0} (rows : K → Option (List Row)) (faults : K 
   pub fresh : faults book.keeper ≡ 0
   pub same : s' ≡ s
 
--- A book was opened over a keeper that its shelf opened at this moment, and still has it: nothing had been tried with it
--- in vain, its rows, if it tells them, are the history's, and so are those that a stop leaves now.
+-- A book was opened over a keeper that its shelf opened at this moment, and still has it: nothing had been tried with
+-- it in vain, its rows, if it tells them, are the history's, and so are those that a stop leaves now.
 pub record BeginsAt {K : Type 0} (keepers : Keepers K) (opened_at : ℕ) (book : SeenBook K) : Type 0 where
   pub at : opened_at ≡ keepers.moment book.opened
   pub still : book.keeper ≡ book.opened
@@ -206,8 +206,8 @@ PipesStore tells_stops keeps path left gives exit o o' s s' =
 
 -- ---- a view of a store
 
--- What was told of a user's view of a history, by the exit: all its lines; a part of them, after which a write failed or
--- memory ran out; or that no user has registered the name.
+-- What was told of a user's view of a history, by the exit: all its lines; a part of them, after which a write failed
+-- or memory ran out; or that no user has registered the name.
 abbrev pub TellsView : History → List ℕ → Exit → Outlet → Outlet → Type 0
 TellsView H name exits.Done s s' =
     (user : ℕ) × (number_of name H ≡ Some user) × Writes (lines_text (view (Some user) H)) s s'

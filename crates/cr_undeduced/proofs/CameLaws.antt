@@ -22,6 +22,7 @@ use Rattle.cr_base.specs.HistoryFacts.{is_withdrawn, decision_of}
 use Rattle.cr_base.specs.Lists.{is_number, last}
 use Rattle.cr_base.specs.Phases.{is_phase, is_from, committee_works, papers_may_be_accepted}
 use Rattle.cr_base.specs.Words.{is_member, is_chair, is_accept}
+use Rattle.cr_base.proofs.Small.{and_not_from}
 use Rattle.cr_history.specs.Invariants.{IsInOrder, IsByChair, IsByRight, IsInPhase, IsOfMember, IsSeated, is_of_paper}
 use Rattle.cr_history.specs.Invariants.{may_turn}
 use Rattle.cr_policy.specs.Legal.{Legal}
@@ -53,13 +54,10 @@ pair-is paper p user u is =
 
 -- ---- the words of the rules and those of the sentences
 
-both : (a b : Bool) → a ≡ true → b ≡ false → (a && not b) ≡ true
-both a b h k = (λ i. h i && not (k i))
-
 administers-is : (before : History) (maker paper : ℕ) → IsTrue (is_chair (role_of (Some maker) before))
     → IsFalse (is_conflicted (Some maker) paper before) → IsTrue (administers maker paper before)
 administers-is before maker paper chair clear =
-    both (chairs maker before) (is_conflicted (Some maker) paper before)
+    and_not_from (chairs maker before) (is_conflicted (Some maker) paper before)
     (sym (chair-same (role_of (Some maker) before)) ∙ chair) clear
 
 at_work-is : (before : History) → IsTrue (committee_works (phase_of before)) → IsTrue (committee_at_work before)
@@ -160,7 +158,7 @@ reviewer-made u p o before maker (entries.Assigned paper user kind ordinal) tell
       cc,
       administers-is before maker paper chair right,
       at_work-is before phase,
-      both (has_part user paper before) (is_conflicted (Some user) paper before)
+      and_not_from (has_part user paper before) (is_conflicted (Some user) paper before)
           (has_part-is before user paper member) seat.0,
     )
 reviewer-made u p o before maker (entries.Unassigned paper user ordinal) tells chair right phase member seat =

@@ -3,7 +3,7 @@
 use Rattle.std.proofs.Common.{ℕ, Bool, true, false, ◌≡◌, List, [], ◌∷◌, refl, sym, ap, ◌∙◌, ◌||◌, ◌&&◌}
 use Rattle.std.proofs.Common.{Option, Some}
 use Rattle.std.specs.Prelude.{is_some, not}
-use Rattle.std.proofs.lemmas.Bool.{true≢false}
+use Rattle.std.proofs.lemmas.Bool.{true≢false, and_from, or_left}
 use Rattle.cr_base.specs.declared.entry.Entry.{Entry}
 use Rattle.cr_base.specs.declared.entry.Entry.TheVariants as entries
 use Rattle.cr_base.specs.declared.entry.Stamp.{Stamp}
@@ -48,13 +48,6 @@ there : {A : Type 0} (shown : Bool) (own : A) (known : Option A) → where_shown
     → shown ≡ true → is_some known ≡ true
 there shown own known same is = ap is_some (sym same ∙ ap (λ b. where_shown b (Some own)) is)
 
-both : (a b : Bool) → a ≡ true → b ≡ true → (a && b) ≡ true
-both a b h k = (λ i. h i && k i)
-
-or-left : (a b : Bool) → a ≡ true → (a || b) ≡ true
-or-left true b h = refl
-or-left false b h = absurd (true≢false (sym h))
-
 -- ---- one entry
 
 module _ (u : Option ℕ) (T : History) (at : Around) (stamp : Stamp) (more : Bool) where
@@ -98,7 +91,7 @@ module _ (u : Option ℕ) (T : History) (at : Around) (stamp : Stamp) (more : Bo
   keeps e p part known own other within knows same =
       part-kept (shown e p) known own other (λ is.
       let tells = told e within p is in
-      knows (both (is_told u T at.before at.after stamp.maker e) (is_some (part u T at.before at.after stamp e)) tells
+      knows (and_from (is_told u T at.before at.after stamp.maker e) (is_some (part u T at.before at.after stamp e)) tells
       (there (shown e p) own (part u T at.before at.after stamp e) (same tells) is)))
 
   -- so with the other payload in all parts but those that are known it shows her the same
@@ -183,7 +176,7 @@ module _ (u : Option ℕ) (T : History) (at : Around) (stamp : Stamp) (more : Bo
       λ i. record (masked (shown e) false (entire stamp e)) {
         tag =
             keeps e part.tag tag_for (known.tag || not (are_for_same tag x.tag)) tag x.tag within
-            (λ tells. or-left known.tag (not (are_for_same tag x.tag)) (knows.tag tells))
+            (λ tells. or_left known.tag (not (are_for_same tag x.tag)) (knows.tag tells))
             (λ told. tag-one u T at stamp more e told) i;
         on =
             keeps e part.on switch_for known.on on x.on within knows.on

@@ -1,9 +1,10 @@
 -- SPDX-License-Identifier: Apache-2.0 OR MIT
 -- At each look the same is seen: what was known stays, and the same papers are accepted.
-use Rattle.std.proofs.Common.{ℕ, Bool, true, false, ◌≡◌, suc, zero, List, [], ◌∷◌, ◌++◌, refl, sym, ap, ◌∙◌, ◌||◌}
+use Rattle.std.proofs.Common.{ℕ, true, ◌≡◌, suc, zero, List, [], ◌∷◌, ◌++◌, refl, sym, ap, ◌∙◌}
 use Rattle.std.proofs.Common.{Option, None, append_assoc, length, take_all, arith}
 use Rattle.std.specs.Prelude.{map, take}
 use Rattle.std.specs.List.{AllByRecursion}
+use Rattle.std.proofs.lemmas.Bool.{or_right}
 use Rattle.cr_base.specs.declared.entry.Entry.{Entry}
 use Rattle.cr_base.specs.declared.entry.Entry.TheVariants as entries
 use Rattle.cr_base.specs.declared.entry.Stamped.{Stamped}
@@ -41,10 +42,6 @@ module _ (u : Option ℕ) (T : History) where
   known-told part looks before e later among told =
       among (λ (look : Looking). was_told part before e look.who look.stood look.ahead) told
 
-  or-right : (a b : Bool) → b ≡ true → (a || b) ≡ true
-  or-right true b h = refl
-  or-right false b h = h
-
   -- and so it is of what stays beside the tags
   knows-all : (looks : List Looking) (before : History) (e : Stamped) (later : History)
       → Among (with_ahead (e ∷ later)) looks
@@ -65,7 +62,7 @@ module _ (u : Option ℕ) (T : History) where
     tag = λ told. refl;
     on = known-told switch_for looks before e later among;
     decision = λ told.
-        or-right (any_final looks e.entry) _ (known-told decision_for looks before e later among told);
+        or_right (any_final looks e.entry) _ (known-told decision_for looks before e later among told);
   }
 
   -- so what is filled in where it wasn't is unseen

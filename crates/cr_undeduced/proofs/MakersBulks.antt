@@ -4,7 +4,7 @@
 use Rattle.std.proofs.Common.{ℕ, Bool, true, false, cond, ◌≡◌, ◌+◌, List, [], ◌∷◌, ◌++◌, length, eqb, refl, sym, ap}
 use Rattle.std.proofs.Common.{subst, ◌∙◌, Option, Some, None, Result, Ok, Err}
 use Rattle.std.specs.Prelude.{not}
-use Rattle.std.proofs.lemmas.Bool.{true≢false}
+use Rattle.std.proofs.lemmas.Bool.{true≢false, not-false}
 use Rattle.cr_base.specs.declared.bulk.Broken.{Broken}
 use Rattle.cr_base.specs.declared.bulk.BulkRow.{BulkRow}
 use Rattle.cr_base.specs.declared.command.Command.{Command}
@@ -295,12 +295,8 @@ module _ (A B : History) (phase : phase_of B ≡ phase_of A) (stamp : Stamp) (ro
       here : NoneBroken (bulk_checks (standing_of (Some stamp.maker) None A))
       here = subst NoneBroken (standing-then (Some stamp.maker) A) none_broken-here
 
-      unbroken : (b : Bool) → not b ≡ false → b ≡ true
-      unbroken true is = refl
-      unbroken false is = absurd (true≢false is)
-
       none : NoneBroken (checks (Some w) B)
       none = subst NoneBroken (sym (standing-then (Some w) B)) (
-        ap not (chair (unbroken (is_chair (role_of (Some stamp.maker) A)) here.0)),
+        ap not (chair (not-false (is_chair (role_of (Some stamp.maker) A)) here.0)),
         (ap (λ (phase : Phase). not (committee_works phase)) phase ∙ here.1.0, tt),
       )

@@ -17,6 +17,7 @@ use Rattle.cr_base.specs.Calls.{stamp_by, stamp_of, call_of}
 use Rattle.cr_base.specs.Drawn.{Drawn, stamped, grouped}
 use Rattle.cr_base.specs.History.{History}
 use Rattle.cr_base.specs.Logins.{command_wants_login}
+use Rattle.cr_base.proofs.Small.{and_second}
 use Rattle.cr_history.specs.Invariants.{IsRegistered}
 use Rattle.cr_policy.specs.Added.{added, answered, made_by, stamp_added, marks, IsAdded}
 use Rattle.cr_policy.specs.Judge.{judge}
@@ -66,10 +67,6 @@ pub record Accepts (H : History) (call : Call) (g : History) : Type 0 where
   pub is : judge (view call.caller H) call ≡ Ok drawn
   pub group : drawn.group ≡ g
 
-second : (a b : Bool) → (a && b) ≡ true → b ≡ true
-second true b h = h
-second false b h = absurd (true≢false (sym h))
-
 drawn-of : (r : Result Drawn Rule) → is_ok r ≡ true → (d : Drawn) × (r ≡ Ok d)
 drawn-of (Ok d) h = (d, refl)
 drawn-of (Err rule) h = absurd (true≢false (sym h))
@@ -79,7 +76,7 @@ pub accepts : (H : History) (call : Call) → Legal H → IsCaller H call.caller
     → Accepts H call (grouped (stamp_added H call) (added call.caller H call.command))
 accepts H call legal calls may =
     let k = drawn-of (judge (view call.caller H) call)
-    (second _ (is_ok (judge (view call.caller H) call)) (permissions_as_said H call legal ∙ may)) in
+    (and_second _ (is_ok (judge (view call.caller H) call)) (permissions_as_said H call legal ∙ may)) in
     record {
       drawn = k.0;
       is = k.1;

@@ -5,6 +5,7 @@ use Rattle.std.proofs.Common.{ap, subst, ◌∙◌, ◌||◌, ◌&&◌, append_a
 use Rattle.std.specs.Prelude.{not, ◌==◌}
 use Rattle.std.specs.List.{list_any}
 use Rattle.std.proofs.lemmas.Bool.{true≢false, eqb-true}
+use Rattle.std.proofs.Math.Bool.{and-false}
 use Rattle.cr_base.specs.declared.bulk.Broken.{Broken}
 use Rattle.cr_base.specs.declared.bulk.BulkRow.{BulkRow}
 use Rattle.cr_base.specs.declared.command.Call.{Call}
@@ -141,16 +142,12 @@ module _ (user number : ℕ) where
   abbrev pub counts : Stamp → Bool
   counts stamp = eqb stamp.maker user && has_number number stamp.key
 
-  never : (b : Bool) → (b && false) ≡ false
-  never true = refl
-  never false = refl
-
   pub counts-made : (w : ℕ) (stamp : Stamp) → counts stamp ≡ false → counts (stamp_of w stamp) ≡ false
   counts-made w stamp none = by (eqb w stamp.maker)
     where
       by : (b : Bool) → counts (cond b stamp (stamp_by w stamp.at None)) ≡ false
       by true = none
-      by false = never (eqb w user)
+      by false = and-false (eqb w user)
 
   pub head-free : (b : Bool) (e : Stamped) (H : History) → cond b (e ∷ H) H ≡ [] → (b ≡ false) × (H ≡ [])
   head-free true e H is = cc

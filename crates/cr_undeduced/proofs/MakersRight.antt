@@ -18,7 +18,7 @@ use Rattle.cr_base.specs.HistoryFacts.{phase_of, role_of, ordinal_of, seats_of, 
 use Rattle.cr_base.specs.Lists.{listed}
 use Rattle.cr_base.specs.Logins.{command_wants_login}
 use Rattle.cr_policy.specs.Added.{added, for_label, next_label, next_form}
-use Rattle.cr_policy.specs.Sentences.{is_it, before_bidding, committee_at_work, in_time, on_committee, chairs, stands}
+use Rattle.cr_policy.specs.Sentences.{is_it, before_bidding, committee_at_work, in_time, on_committee, chairs, is_live}
 use Rattle.cr_policy.specs.Sentences.{wrote, is_eligible, administers, has_part, is_external_of, of_some, user_named}
 use Rattle.cr_policy.specs.Sentences.{is_for_chairs_alone, comes_behind, lasts_or_comes, now, is_over, is_above}
 use Rattle.cr_policy.specs.Sentences.{has_two_chairs, reviews, may_have_it, in_conflict}
@@ -135,7 +135,7 @@ module _ (H : History) (u w at : ℕ) where
           × (e : Entry) × (listed (option_map (λ o. entries.Unassigned p v o) seat) ++ [] ≡ e ∷ [])
       by None right = absurd (true≢false (sym right))
       by (Some o) right = (
-        second5 (stands p H) (administers u p H) (administers w p H) (committee_at_work H) (reviews v p H)
+        second5 (is_live p H) (administers u p H) (administers w p H) (committee_at_work H) (reviews v p H)
             (not (has_written v p H)) right is,
         entries.Unassigned p v o,
         refl,
@@ -191,7 +191,7 @@ module _ (H : History) (u w at : ℕ) where
   takes (commands.Revise None title abstract) is right = absurd (true≢false (sym is))
   takes (commands.Revise (Some p) title abstract) is right = record {
     login = refl;
-    may = second4 (stands p H) (wrote u p H) (wrote w p H) (now Submission H) (in_time at H) right is;
+    may = second4 (is_live p H) (wrote u p H) (wrote w p H) (now Submission H) (in_time at H) right is;
     entry = entries.Revised p title abstract;
     one = refl;
     same = refl;
@@ -199,7 +199,7 @@ module _ (H : History) (u w at : ℕ) where
   takes (commands.Withdraw None) is right = absurd (true≢false (sym is))
   takes (commands.Withdraw (Some p)) is right = record {
     login = refl;
-    may = second4 (stands p H) (wrote u p H) (wrote w p H) (now Submission H) (in_time at H) right is;
+    may = second4 (is_live p H) (wrote u p H) (wrote w p H) (now Submission H) (in_time at H) right is;
     entry = entries.Withdrawn p;
     one = refl;
     same = refl;
@@ -207,7 +207,7 @@ module _ (H : History) (u w at : ℕ) where
   takes (commands.Respond None text) is right = absurd (true≢false (sym is))
   takes (commands.Respond (Some p) text) is right = record {
     login = refl;
-    may = second5 (stands p H) (wrote u p H) (wrote w p H) (now Response H) (in_time at H) (is_none (response_of p H)) right
+    may = second5 (is_live p H) (wrote u p H) (wrote w p H) (now Response H) (in_time at H) (is_none (response_of p H)) right
         is;
     entry = entries.Responded p text;
     one = refl;
@@ -218,20 +218,20 @@ module _ (H : History) (u w at : ℕ) where
   takes (commands.SetConflict (Some p) name true) is right =
       let k = named (user_named name H) (may_declare u at H p) (may_declare w at H p) (λ v. entries.Conflict p v true)
       is right
-      (λ v said right. declared-too (stands p H) (before_bidding H) (in_time at H) (wrote u p H) (on_committee v H)
+      (λ v said right. declared-too (is_live p H) (before_bidding H) (in_time at H) (wrote u p H) (on_committee v H)
       (committee_at_work H) (eqb v u) (administers u p H) (is_external_of v p H) (wrote w p H) (administers w p H)
       (eqb v w) none-before said right) in
       record { login = refl; may = k.may; entry = k.entry_is; one = k.one; same = k.one }
   takes (commands.SetConflict (Some p) name false) is right =
       let k = named (user_named name H) (may_take_back u H p) (may_take_back w H p) (λ v. entries.Conflict p v false)
       is right
-      (λ v said right. taken-back-too (stands p H) (before_bidding H) (administers u p H) (committee_at_work H)
+      (λ v said right. taken-back-too (is_live p H) (before_bidding H) (administers u p H) (committee_at_work H)
       (has_part v p H) (not (wrote v p H)) (eqb v w) (wrote w p H) (administers w p H) none-before said right) in
       record { login = refl; may = k.may; entry = k.entry_is; one = k.one; same = k.one }
   takes (commands.Bid None value) is right = absurd (true≢false (sym is))
   takes (commands.Bid (Some p) value) is right = record {
     login = refl;
-    may = second4 (stands p H) (is_eligible u p H) (is_eligible w p H) (now Bidding H) (in_time at H) right is;
+    may = second4 (is_live p H) (is_eligible u p H) (is_eligible w p H) (now Bidding H) (in_time at H) right is;
     entry = entries.Bid p value;
     one = refl;
     same = refl;
@@ -240,7 +240,7 @@ module _ (H : History) (u w at : ℕ) where
   takes (commands.Assign (Some p) name kind) is right =
       let k = named (user_named name H) (may_assign u H p) (may_assign w H p)
       (λ v. entries.Assigned p v kind (next_label p H)) is right
-      (λ v said right. second6 (stands p H) (administers u p H) (administers w p H) (committee_at_work H)
+      (λ v said right. second6 (is_live p H) (administers u p H) (administers w p H) (committee_at_work H)
       (may_have_it v p H) (not (reviews v p H)) (nat_lt (length (seats_of p H)) 26) right said) in
       record { login = refl; may = k.may; entry = k.entry_is; one = k.one; same = k.one }
   takes (commands.Unassign None name) is right = absurd (true≢false (sym is))
@@ -250,20 +250,20 @@ module _ (H : History) (u w at : ℕ) where
   takes (commands.Invite None name) is right = absurd (true≢false (sym is))
   takes (commands.Invite (Some p) name) is right =
       let k = named (user_named name H) (may_invite u H p) (may_invite w H p) (λ v. entries.Invited p v) is right
-      (λ v said right. second6 (stands p H) (administers u p H) (administers w p H) (committee_at_work H)
+      (λ v said right. second6 (is_live p H) (administers u p H) (administers w p H) (committee_at_work H)
       (not (on_committee v H)) (not (in_conflict v p H)) (not (is_invited (Some v) p H)) right said) in
       record { login = refl; may = k.may; entry = k.entry_is; one = k.one; same = k.one }
   takes (commands.Uninvite None name) is right = absurd (true≢false (sym is))
   takes (commands.Uninvite (Some p) name) is right =
       let k = named (user_named name H) (may_uninvite u H p) (may_uninvite w H p) (λ v. entries.Uninvited p v) is right
-      (λ v said right. second5 (stands p H) (administers u p H) (administers w p H) (committee_at_work H)
+      (λ v said right. second5 (is_live p H) (administers u p H) (administers w p H) (committee_at_work H)
       (is_invited (Some v) p H) (not (reviews v p H)) right said) in
       record { login = refl; may = k.may; entry = k.entry_is; one = k.one; same = k.one }
   takes (commands.Tag None tag true) is right = absurd (true≢false (sym is))
   takes (commands.Tag None tag false) is right = absurd (true≢false (sym is))
   takes (commands.Tag (Some p) tag true) is right = record {
     login = refl;
-    may = tagged-too (stands p H) (is_eligible u p H) (committee_at_work H) (chairs u H) (is_eligible w p H)
+    may = tagged-too (is_live p H) (is_eligible u p H) (committee_at_work H) (chairs u H) (is_eligible w p H)
         (chairs w H) (not (is_for_chairs_alone tag)) is right;
     entry = entries.Tagged p tag true;
     one = refl;
@@ -271,7 +271,7 @@ module _ (H : History) (u w at : ℕ) where
   }
   takes (commands.Tag (Some p) tag false) is right = record {
     login = refl;
-    may = tagged-too (stands p H) (is_eligible u p H) (committee_at_work H) (chairs u H) (is_eligible w p H)
+    may = tagged-too (is_live p H) (is_eligible u p H) (committee_at_work H) (chairs u H) (is_eligible w p H)
         (chairs w H) (not (is_for_chairs_alone tag)) is right;
     entry = entries.Tagged p tag false;
     one = refl;
@@ -280,7 +280,7 @@ module _ (H : History) (u w at : ℕ) where
   takes (commands.Decide None decision) is right = absurd (true≢false (sym is))
   takes (commands.Decide (Some p) decision) is right = record {
     login = refl;
-    may = second3 (stands p H) (administers u p H) (administers w p H) (now Discussion H) right is;
+    may = second3 (is_live p H) (administers u p H) (administers w p H) (now Discussion H) right is;
     entry = entries.Decided p decision;
     one = refl;
     same = refl;

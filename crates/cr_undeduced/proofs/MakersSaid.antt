@@ -22,10 +22,10 @@ use Rattle.cr_base.specs.HistoryFacts.{is_conflict_on, ordinal_of, is_invited, i
 use Rattle.cr_base.specs.HistoryFacts.{forms_of, own_papers_of, own_bytes_of, own_comments_of, response_of}
 use Rattle.cr_base.specs.HistoryFacts.{uploads_of, comments_of, decision_of}
 use Rattle.cr_base.specs.Lists.{given, is_number, is_nothing, last, last_or, listed, total}
-use Rattle.cr_policy.specs.Added.{added, made_by, for_user, for_label, for_seated, coauthors, without, once}
+use Rattle.cr_policy.specs.Added.{added, made_by, for_user, for_label, without, once}
 use Rattle.cr_policy.specs.Sentences.{now, is_it, comes_behind, before_bidding, committee_at_work, is_over, in_time}
 use Rattle.cr_policy.specs.Sentences.{meets, lasts_or_comes_in, is_above, is_members, is_chairs}
-use Rattle.cr_policy.specs.Sentences.{on_committee, chairs, has_two_chairs, stands, wrote, in_conflict}
+use Rattle.cr_policy.specs.Sentences.{on_committee, chairs, has_two_chairs, is_live, wrote, in_conflict}
 use Rattle.cr_policy.specs.Sentences.{is_eligible, administers, has_part, may_have_it, reviews}
 use Rattle.cr_policy.specs.Sentences.{of_some, user_named, is_for_chairs_alone}
 use Rattle.cr_permissions.specs.MayDo.{may_do, has_written}
@@ -157,7 +157,7 @@ module _ (A B : History) (alike : Alike A B) where
   two-also = ap (λ (lines : List AccountLine). nat_le 2 (count_by (λ (a : AccountLine). is_chairs a.role) lines))
       accounts-also
 
-  stands-also : (p : ℕ) → stands p A ≡ stands p B
+  stands-also : (p : ℕ) → is_live p A ≡ is_live p B
   stands-also p = λ i. list_any (λ q. Rattle.std.specs.Prelude.◌==◌ q p) (papers-also i) && not (withdrawn-also p i)
 
   wrote-also : (u p : ℕ) → wrote u p A ≡ wrote u p B

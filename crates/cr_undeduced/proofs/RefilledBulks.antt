@@ -1,7 +1,7 @@
 -- SPDX-License-Identifier: Apache-2.0 OR MIT
 -- A bulk that was accepted is accepted on a history that is filled in anew, its rows filled in too.
 use Rattle.std.proofs.Common.{ℕ, Bool, true, false, cond, ◌≡◌, ◌+◌, suc, zero, List, [], ◌∷◌, ◌++◌, length, refl}
-use Rattle.std.proofs.Common.{sym, ap, subst, ◌∙◌, arith, Option, Some, None, Result, Ok, Err, length-append}
+use Rattle.std.proofs.Common.{sym, ap, subst, ◌∙◌, Option, Some, None, Result, Ok, Err, length-append, add-one}
 use Rattle.std.specs.Prelude.{codes}
 use Rattle.cr_base.specs.declared.bulk.Broken.{Broken}
 use Rattle.cr_base.specs.declared.bulk.BulkRow.{BulkRow}
@@ -156,10 +156,7 @@ behind-suc (suc k) xs = behind-suc k (λ n. xs (suc n))
 behind-next : (xs : ℕ → Payload) (H : History) (e : Stamped)
     → behind (length (H ++ e ∷ [])) xs ≡ (λ n. behind (length H) xs (suc n))
 behind-next xs H e =
-    ap (λ k. behind k xs) (length-append H (e ∷ []) ∙ add_one (length H)) ∙ behind-suc (length H) xs
-  where
-    add_one : (k : ℕ) → k + 1 ≡ suc k
-    add_one k = omega arith
+    ap (λ k. behind k xs) (length-append H (e ∷ []) ∙ add-one (length H)) ∙ behind-suc (length H) xs
 
 -- the first of a group's entries
 abbrev first_of : Entry → History → Entry

@@ -2,8 +2,7 @@
 -- No rule reads what is filled in: the facts that judgement reads are those of the history before.
 use Rattle.std.proofs.Common.{ℕ, Bool, true, false, ◌≡◌, ◌+◌, suc, List, [], ◌∷◌, ◌++◌, length, refl, sym, ap, ◌∙◌}
 use Rattle.std.proofs.Common.{Option, Some, None, length-append}
-use Rattle.std.specs.Prelude.{map, is_some, not, unwrap_or}
-use Rattle.std.specs.List.{flat_map}
+use Rattle.std.specs.Prelude.{map, is_some, not}
 use Rattle.cr_base.specs.declared.entry.Entry.{Entry}
 use Rattle.cr_base.specs.declared.entry.Entry.TheVariants as entries
 use Rattle.cr_base.specs.declared.entry.Stamped.{Stamped}
@@ -22,7 +21,6 @@ use Rattle.cr_base.specs.HistoryFacts.{own_comments_of, uploads_of, is_withdrawn
 use Rattle.cr_base.specs.HistoryFacts.{phase_of, mode_of, role_of, is_conflict_on}
 use Rattle.cr_base.specs.Lists.{given, is_number, is_nothing, last, last_or, last_from}
 use Rattle.cr_base.specs.Tables.{Tables, tables_after, tables_from}
-use Rattle.cr_base.specs.Ties.{BareTies}
 use Rattle.cr_base.specs.Words.{is_member}
 use Rattle.cr_undeduced.specs.Payload.{Payload}
 use Rattle.cr_undeduced.proofs.Fill.{fill, refilled}

@@ -3,9 +3,7 @@
 -- the same but for these.
 use Rattle.std.proofs.Common.{ℕ, Bool, true, false, cond, ◌≡◌, ◌≤◌, ◌+◌, suc, List, [], ◌∷◌, length, refl, sym}
 use Rattle.std.proofs.Common.{ap, subst, ◌∙◌, arith, Option, Some, None, Result, Ok, eqb}
-use Rattle.std.specs.Prelude.{not, is_none, is_some, unwrap_or, map, nat_lt}
-use Rattle.std.specs.List.{flat_map, list_any}
-use Rattle.std.specs.Option.{option_map}
+use Rattle.std.specs.Prelude.{not, is_some, unwrap_or, map, nat_lt}
 use Rattle.std.proofs.lemmas.Bool.{and_parts, true≢false}
 use Rattle.std.proofs.lemmas.Bool.Decides.{nat_tests}
 use Rattle.cr_base.specs.declared.command.Command.{Command}
@@ -19,7 +17,7 @@ use Rattle.cr_base.specs.declared.reply.Rule.{Rule}
 use Rattle.cr_base.specs.declared.words.Phase.{Phase}
 use Rattle.cr_base.specs.declared.words.Role.TheVariants.{Chair}
 use Rattle.cr_base.specs.Accounts.{chair_count}
-use Rattle.cr_base.specs.Checks.{Check, judged, of_role, register_checks, phase_checks, deadline_checks, submit_checks}
+use Rattle.cr_base.specs.Checks.{Check, judged, register_checks, phase_checks, deadline_checks, submit_checks}
 use Rattle.cr_base.specs.Checks.{revise_checks, upload_checks, name_checks, mode_checks, conflict_checks, bid_checks}
 use Rattle.cr_base.specs.Checks.{assign_checks, unassign_checks, review_checks, respond_checks, comment_checks}
 use Rattle.cr_base.specs.Checks.{tag_checks, decide_checks, dismiss_checks, invite_checks, uninvite_checks}
@@ -27,10 +25,10 @@ use Rattle.cr_base.specs.Deeds.{deed_at, drawn_by, is_missing, role_asked}
 use Rattle.cr_base.specs.Drawn.{Drawn, besides, coauthor_entries, grouped, registration, stamped}
 use Rattle.cr_base.specs.History.{History}
 use Rattle.cr_base.specs.Judging.{judge_by}
-use Rattle.cr_base.specs.Lists.{at_some, listed}
+use Rattle.cr_base.specs.Lists.{at_some}
 use Rattle.cr_base.specs.Resolving.{all_found, resolve}
 use Rattle.cr_base.specs.Sources.{Facts, Shown, number_in, user_among, users_among}
-use Rattle.cr_base.specs.Sources.{role_among, paper_named, target_named, is_late}
+use Rattle.cr_base.specs.Sources.{paper_named, target_named, is_late}
 use Rattle.cr_base.specs.TagTexts.{is_for_chairs}
 use Rattle.cr_base.proofs.CheckLaws.{NoneBroken, judged-Ok, judged-none}
 use Rattle.cr_bounds.specs.ShownTo.{is_committees, is_chairs}

@@ -1,7 +1,7 @@
 -- SPDX-License-Identifier: Apache-2.0 OR MIT
 -- There is room for the contents that are filled in: where nobody uploads too much by them, or none is longer than the
 -- one whose place it takes.
-use Rattle.std.proofs.Common.{ℕ, Bool, true, false, ◌≡◌, ◌≤◌, ◌+◌, suc, List, [], ◌∷◌, ◌++◌, length, sym, ap, subst}
+use Rattle.std.proofs.Common.{ℕ, Bool, true, false, ◌≡◌, ◌≤◌, ◌+◌, suc, [], ◌∷◌, ◌++◌, length, sym, ap, subst}
 use Rattle.std.proofs.Common.{◌∙◌, arith, Option, Some, None, Ok, eqb}
 use Rattle.std.specs.Prelude.{nat_lt}
 use Rattle.std.proofs.lemmas.List.Concat.{flat_map-append}
@@ -27,6 +27,7 @@ use Rattle.cr_base.specs.Resolving.{resolve}
 use Rattle.cr_base.specs.Sources.{Facts, Shown, paper_named, is_late, facts_of_tables, shown_in_tables}
 use Rattle.cr_base.specs.Tables.{Tables}
 use Rattle.cr_base.proofs.CheckLaws.{judged-Ok}
+use Rattle.cr_base.proofs.Small.{total-append, eqb-self}
 use Rattle.cr_policy.specs.Legal.{CallsAs}
 use Rattle.cr_undeduced.specs.Payload.{Payload, IsNoLonger, NoneLonger}
 use Rattle.cr_undeduced.proofs.Fill.{fill, refilled, behind, refilled-append}
@@ -34,17 +35,10 @@ use Rattle.cr_undeduced.proofs.RefilledJudged.{HasRoom}
 
 -- ---- how many bytes somebody has uploaded
 
-total-append : (ns ms : List ℕ) → total (ns ++ ms) ≡ total ns + total ms
-total-append [] ms = sym (omega arith)
-total-append (n ∷ ns) ms = ap (λ k. n + k) (total-append ns ms) ∙ omega arith
-
 pub bytes-append : (u : Option ℕ) (H g : History) → own_bytes_of u (H ++ g) ≡ own_bytes_of u H + own_bytes_of u g
 bytes-append u H g =
     ap total (flat_map-append (λ (e : Stamped). own_bytes_told u e.stamp.maker e.entry) H g)
     ∙ total-append (all_told_by (own_bytes_told u) H) (all_told_by (own_bytes_told u) g)
-
-itself : (m : ℕ) → eqb m m ≡ true
-itself m = grind (arith, nat_tests)
 
 own-bytes : (u : ℕ) (n : ℕ) (b : Bool) → b ≡ true → total (given b n ++ []) ≡ n
 own-bytes u n true is = omega arith
@@ -82,7 +76,7 @@ room xs H call drawn t t' caller bytes accepted quota = by call.caller call.comm
         ap (λ (d : Drawn). own_bytes_of (Some u) (refilled xs (H ++ d.group))) (sym k.1)
         ∙ ap (own_bytes_of (Some u)) (refilled-append xs H draws.group)
         ∙ bytes-append (Some u) (refilled xs H) (refilled (behind (length H) xs) draws.group)
-        ∙ ap (λ n. own_bytes_of (Some u) (refilled xs H) + n) (own-bytes u more (eqb u u) (itself u)) in
+        ∙ ap (λ n. own_bytes_of (Some u) (refilled xs H) + n) (own-bytes u more (eqb u u) (eqb-self u)) in
         subst (λ n. n + more ≤ 67108864) (sym bytes) (subst (λ n. n ≤ 67108864) sum (quota u))
     by u command caller bytes accepted = tt
 
@@ -97,10 +91,6 @@ bytes-fewer u xs (e ∷ H) shorter = by e.entry shorter.0 (bytes-fewer u (λ n. 
     one true n m a c few rest = omega arith
     one false n m a c few rest = omega arith
 
-    -- what is told of one entry stands ahead of what is told of the others
-    split : (ns ms : List ℕ) → total (ns ++ ms) ≡ total ns + total ms
-    split ns ms = total-append ns ms
-
     by : (entry : Entry) → IsNoLonger (xs 0) entry
         → own_bytes_of u (refilled (λ n. xs (suc n)) H) ≤ own_bytes_of u H
         → total (own_bytes_told u e.stamp.maker (fill (xs 0) entry)
@@ -111,9 +101,9 @@ bytes-fewer u xs (e ∷ H) shorter = by e.entry shorter.0 (bytes-fewer u (λ n. 
         let k = one b (length (xs 0).content) (length content) (own_bytes_of u (refilled (λ n. xs (suc n)) H))
         (own_bytes_of u H) few rest in
         subst (λ n. n ≤ total (given b (length content) ++ all_told_by (own_bytes_told u) H))
-        (sym (split (given b (length (xs 0).content)) (all_told_by (own_bytes_told u) (refilled (λ n. xs (suc n)) H))))
+        (sym (total-append (given b (length (xs 0).content)) (all_told_by (own_bytes_told u) (refilled (λ n. xs (suc n)) H))))
         (subst (λ n. total (given b (length (xs 0).content)) + own_bytes_of u (refilled (λ n. xs (suc n)) H) ≤ n)
-        (sym (split (given b (length content)) (all_told_by (own_bytes_told u) H))) k)
+        (sym (total-append (given b (length content)) (all_told_by (own_bytes_told u) H))) k)
     by (entries.Registered user name digest) few rest = rest
     by entry few rest = rest
 

@@ -1,12 +1,11 @@
 -- SPDX-License-Identifier: Apache-2.0 OR MIT
 -- What a user's accepted command adds, the command of whoever has her place adds, with the two in each other's place.
 use Rattle.std.proofs.Common.{ℕ, Bool, true, false, cond, ◌≡◌, ◌+◌, List, [], ◌∷◌, ◌++◌, length, refl, sym, ap}
-use Rattle.std.proofs.Common.{◌∙◌, Option, Some, None, eqb, ◌||◌, ◌&&◌, arith}
+use Rattle.std.proofs.Common.{◌∙◌, Option, Some, None, eqb, ◌||◌, ◌&&◌}
 use Rattle.std.specs.Prelude.{map, not, nat_lt, is_some}
 use Rattle.std.specs.List.{flat_map}
 use Rattle.std.specs.Option.{option_map}
-use Rattle.std.proofs.lemmas.Bool.{true≢false, eqb-true}
-use Rattle.std.proofs.lemmas.Bool.Decides.{nat_tests}
+use Rattle.std.proofs.lemmas.Bool.{true≢false, eqb-true, or_left, or_right, not_from_false}
 use Rattle.cr_base.specs.declared.command.Command.{Command}
 use Rattle.cr_base.specs.declared.command.Command.TheVariants as commands
 use Rattle.cr_base.specs.declared.entry.Entry.{Entry}
@@ -21,11 +20,12 @@ use Rattle.cr_base.specs.HistoryFacts.{role_of, is_author, ordinal_of, own_comme
 use Rattle.cr_base.specs.Lists.{given, is_nothing, listed}
 use Rattle.cr_base.specs.Logins.{command_wants_login}
 use Rattle.cr_base.specs.Parse.{parse_name}
+use Rattle.cr_base.proofs.Small.{eqb-self, and_first, and_second}
 use Rattle.cr_history.specs.Invariants.{IsRegistered}
 use Rattle.cr_policy.specs.Added.{added, for_user, for_label, next_label, next_form, next_paper, coauthors}
 use Rattle.cr_policy.specs.Added.{without, once}
 use Rattle.cr_policy.specs.Legal.{Legal}
-use Rattle.cr_policy.specs.Sentences.{of_some, user_named, now, in_time, stands, administers, committee_at_work}
+use Rattle.cr_policy.specs.Sentences.{of_some, user_named, now, in_time, is_live, administers, committee_at_work}
 use Rattle.cr_policy.specs.Sentences.{reviews, may_have_it, is_eligible}
 use Rattle.cr_permissions.specs.MayDo.{may_do, may_declare, may_take_back, may_assign, may_unassign, may_invite}
 use Rattle.cr_permissions.specs.MayDo.{may_uninvite, may_review, may_comment, has_written}
@@ -96,31 +96,6 @@ module _ (t : Twins) where
   abbrev pub lead_of : ℕ → ℕ → List Entry → ℕ
   lead_of u w [] = w
   lead_of u w (e ∷ es) = twin_maker t u e
-
--- ---- Booleans
-
-pub itself : (w : ℕ) → eqb w w ≡ true
-itself w = grind (arith, nat_tests)
-
-pub or-left : (a b : Bool) → a ≡ true → (a || b) ≡ true
-or-left true b h = refl
-or-left false b h = absurd (true≢false (sym h))
-
-or-right : (a b : Bool) → b ≡ true → (a || b) ≡ true
-or-right true b h = refl
-or-right false b h = h
-
-changed : (b : Bool) → b ≡ false → not b ≡ true
-changed false h = refl
-changed true h = absurd (true≢false h)
-
-and-first : (a b : Bool) → (a && b) ≡ true → a ≡ true
-and-first true b h = refl
-and-first false b h = absurd (true≢false (sym h))
-
-and-last : (a b : Bool) → (a && b) ≡ true → b ≡ true
-and-last true b h = h
-and-last false b h = absurd (true≢false (sym h))
 
 -- where neither of the two wrote the paper, whoever has her place did where she did
 pub author-placed : (t : Twins) (A : History) → is_author (Some t.one) t.paper A ≡ false
@@ -197,8 +172,8 @@ module _ (t : Twins) (A : History) (legal : Legal A) (no_one : is_author (Some t
           → IsRegistered A (cond at (cond one t.other (cond two t.one v)) v)
       by true true two h = both.other
       by true false true h = both.one
-      by true false false h = absurd (true≢false (sym (itself v) ∙ h))
-      by false one two h = absurd (true≢false (sym (itself v) ∙ h))
+      by true false false h = absurd (true≢false (sym (eqb-self v) ∙ h))
+      by false one two h = absurd (true≢false (sym (eqb-self v) ∙ h))
 
   -- a name of hers
   record OtherName (p v : ℕ) (name : Option (List ℕ)) : Type 0 where
@@ -277,15 +252,15 @@ module _ (t : Twins) (A : History) (legal : Legal A) (no_one : is_author (Some t
       Room command = Unit {0}
 
       by-maker : (p v : ℕ) → ((not (eqb (placed t p u) u) || not (eqb (placed t p v) v)) ≡ true → ArePeers t A) → Peers p u
-      by-maker p v first h = first (or-left (not (eqb (placed t p u) u)) (not (eqb (placed t p v) v))
-          (changed (eqb (placed t p u) u) h))
+      by-maker p v first h = first (or_left (not (eqb (placed t p u) u)) (not (eqb (placed t p v) v))
+          (not_from_false (eqb (placed t p u) u) h))
 
       by-named : (p v : ℕ) → ((not (eqb (placed t p u) u) || not (eqb (placed t p v) v)) ≡ true → ArePeers t A) → Peers p v
-      by-named p v first h = first (or-right (not (eqb (placed t p u) u)) (not (eqb (placed t p v) v))
-          (changed (eqb (placed t p v) v) h))
+      by-named p v first h = first (or_right (not (eqb (placed t p u) u)) (not (eqb (placed t p v) v))
+          (not_from_false (eqb (placed t p v) v) h))
 
       by-maker-alone : (p : ℕ) → ((not (eqb (placed t p u) u) || false) ≡ true → ArePeers t A) → Peers p u
-      by-maker-alone p first h = first (or-left (not (eqb (placed t p u) u)) false (changed (eqb (placed t p u) u) h))
+      by-maker-alone p first h = first (or_left (not (eqb (placed t p u) u)) false (not_from_false (eqb (placed t p u) u) h))
 
       -- ---- one user is named
 
@@ -370,8 +345,8 @@ module _ (t : Twins) (A : History) (legal : Legal A) (no_one : is_author (Some t
       -- who is taken off reviews the paper
       seat-there : (p v : ℕ) → may_unassign u A p v ≡ true → is_some (ordinal_of (Some v) p A) ≡ true
       seat-there p v said =
-          and-last (stands p A && administers u p A && committee_at_work A) (reviews v p A)
-          (and-first (stands p A && administers u p A && committee_at_work A && reviews v p A) (not (has_written v p A))
+          and_second (is_live p A && administers u p A && committee_at_work A) (reviews v p A)
+          (and_first (is_live p A && administers u p A && committee_at_work A && reviews v p A) (not (has_written v p A))
           said)
 
       unassigned : (p : ℕ) (name : Option (List ℕ)) → of_some (user_named name A) (may_unassign u A p) ≡ true
@@ -409,9 +384,9 @@ module _ (t : Twins) (A : History) (legal : Legal A) (no_one : is_author (Some t
         where
           there : is_some (ordinal_of (Some u) p A) ≡ true
           there =
-              and-last (stands p A && may_have_it u p A) (reviews u p A)
-              (and-first (stands p A && may_have_it u p A && reviews u p A) (now Reviewing A || now Discussion A)
-              (and-first (stands p A && may_have_it u p A && reviews u p A && (now Reviewing A || now Discussion A))
+              and_second (is_live p A && may_have_it u p A) (reviews u p A)
+              (and_first (is_live p A && may_have_it u p A && reviews u p A) (now Reviewing A || now Discussion A)
+              (and_first (is_live p A && may_have_it u p A && reviews u p A && (now Reviewing A || now Discussion A))
               (in_time at A) said))
 
           by : (o : Option ℕ) → ordinal_of (Some u) p A ≡ o → is_some o ≡ true
@@ -435,7 +410,7 @@ module _ (t : Twins) (A : History) (legal : Legal A) (no_one : is_author (Some t
         text = None;
         tellable = tt;
         may = sym (comment-twin t A p u at (of-user p u (by-maker-alone p first))
-            (and-last (stands p A && is_eligible u p A && now Discussion A && in_time at A)
+            (and_second (is_live p A && is_eligible u p A && now Discussion A && in_time at A)
             (nat_lt (own_comments_of (Some u) A) 1000) said ∙ sym room)) ∙ said;
         adds = λ i. entries.Commented p (comments-twin t A p i + 1) (ordinal-twin t A (Some u) p i) text ∷ [];
       }
@@ -619,7 +594,7 @@ module _ (t : Twins) (A : History) (legal : Legal A) (no_one : is_author (Some t
 
       at-registered : (paper : Option ℕ) → ArePeers t A → eqb (at_paper t paper u) u ≡ false
           → IsRegistered A (at_paper t paper u)
-      at-registered None peers other = absurd (true≢false (sym (itself u) ∙ other))
+      at-registered None peers other = absurd (true≢false (sym (eqb-self u) ∙ other))
       at-registered (Some p) peers other = placed-registered p u (λ h. peers) other
 
       pub giver-registered : (command : Command) → ArePeers t A → eqb (giver t u command) u ≡ false

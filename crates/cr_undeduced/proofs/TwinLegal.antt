@@ -5,7 +5,7 @@ use Rattle.std.proofs.Common.{sym, ap, subst, ◌∙◌, ◌||◌, ◌&&◌, app
 use Rattle.std.proofs.Common.{Err, length-append, arith}
 use Rattle.std.specs.Prelude.{map, not, nat_lt, ◌==◌}
 use Rattle.std.specs.List.{list_any}
-use Rattle.std.proofs.lemmas.Bool.{true≢false, eqb-true}
+use Rattle.std.proofs.lemmas.Bool.{eqb-true, or_parts, not-false, or_left}
 use Rattle.std.proofs.lemmas.Bool.Decides.{nat_tests}
 use Rattle.std.proofs.lemmas.List.{map-append}
 use Rattle.std.proofs.lemmas.List.Concat.{flat_map-append}
@@ -31,6 +31,7 @@ use Rattle.cr_base.specs.Lists.{given, is_number}
 use Rattle.cr_base.specs.Logins.{command_wants_login}
 use Rattle.cr_base.specs.Moments.{IsMoment}
 use Rattle.cr_base.specs.Words.{is_chair}
+use Rattle.cr_base.proofs.Small.{eqb-self}
 use Rattle.cr_history.specs.Invariants.{IsRegistered}
 use Rattle.cr_policy.specs.Added.{added, stamp_added, next_comment}
 use Rattle.cr_policy.specs.Judge.{judge, judge_bulk}
@@ -51,19 +52,15 @@ use Rattle.cr_undeduced.proofs.MakersLegal.{counts, counts-made, head-free, bulk
 use Rattle.cr_undeduced.proofs.MakersSaid.{registered-also, role-also, authors-also}
 use Rattle.cr_undeduced.proofs.RefilledLegal.{leads-grow}
 use Rattle.cr_undeduced.proofs.TwinAdds.{rename, rename-login, rename-bounded, giver, FirstPeers, CallTwin, call-twin}
-use Rattle.cr_undeduced.proofs.TwinAdds.{Room, lead, lead_of, giver-registered, registered, or-left, itself}
+use Rattle.cr_undeduced.proofs.TwinAdds.{Room, lead, lead_of, giver-registered, registered}
 use Rattle.cr_undeduced.proofs.TwinBulks.{Step, Ready, AllStep, RowsTwin, rows-twin, hers}
 use Rattle.cr_undeduced.proofs.TwinFacts.{maker-is, phase-twin, role-twin, registered-twin, accounts-twin, number-twin}
 
 -- ---- of what stands ahead
 
-or-false : (a b : Bool) → (a || b) ≡ false → (a ≡ false) × (b ≡ false)
-or-false true b h = absurd (true≢false h)
-or-false false b h = (refl, h)
-
 author-before : (v p : ℕ) (H g : History) → is_author (Some v) p (H ++ g) ≡ false → is_author (Some v) p H ≡ false
 author-before v p H g none =
-    (or-false (is_author (Some v) p H) (is_author (Some v) p g)
+    (or_parts (is_author (Some v) p H) (is_author (Some v) p g)
     (sym (ap (list_any (is_number (Some v)))
     (flat_map-append (λ (e : Stamped). author_told p e.stamp.maker e.entry) H g)
     ∙ list_any-append (is_number (Some v)) (authors_of p H) (authors_of p g)) ∙ none)).0
@@ -74,7 +71,7 @@ peers-before t before (e ∷ H) g peers =
     (peers.0, λ more. alone H (peers.1 more), peers-before t (before ++ e ∷ []) H g peers.2)
   where
     alone : (H : History) → (moves t e || first_moves t (H ++ g)) ≡ false → (moves t e || first_moves t H) ≡ false
-    alone [] none = ap (λ b. b || false) (or-false (moves t e) (first_moves t g) none).0
+    alone [] none = ap (λ b. b || false) (or_parts (moves t e) (first_moves t g) none).0
     alone (s ∷ H) none = none
 
 peers-behind : (t : Twins) (before H g : History) → PeersInTurn t before (H ++ g) → PeersInTurn t (before ++ H) g
@@ -108,18 +105,14 @@ first-moves : (t : Twins) (stamp : Stamp) (next : Entry) (es : List Entry)
 first-moves t stamp next [] = refl
 first-moves t stamp next (e ∷ es) = refl
 
-unmoved : (b : Bool) → not b ≡ false → b ≡ true
-unmoved true h = refl
-unmoved false h = absurd (true≢false h)
-
 -- where several stand together, each stays its maker's
 stay-hers : (t : Twins) (H : History) (stamp : Stamp) (e next : Entry) (es : List Entry)
     → PeersInTurn t H (grouped stamp (e ∷ next ∷ es))
     → (eqb (twin_maker t stamp.maker e) stamp.maker ≡ true) × (eqb (twin_maker t stamp.maker next) stamp.maker ≡ true)
 stay-hers t H stamp e next es peers =
-    let both = or-false (moves t (stamped stamp true e)) (first_moves t (grouped stamp (next ∷ es))) (peers.1 refl) in (
-      unmoved (eqb (twin_maker t stamp.maker e) stamp.maker) both.0,
-      unmoved (eqb (twin_maker t stamp.maker next) stamp.maker) (sym (first-moves t stamp next es) ∙ both.1),
+    let both = or_parts (moves t (stamped stamp true e)) (first_moves t (grouped stamp (next ∷ es))) (peers.1 refl) in (
+      not-false (eqb (twin_maker t stamp.maker e) stamp.maker) both.0,
+      not-false (eqb (twin_maker t stamp.maker next) stamp.maker) (sym (first-moves t stamp next es) ∙ both.1),
     )
 
 twin-group : (t : Twins) (H : History) (stamp : Stamp) (es : List Entry) → PeersInTurn t H (grouped stamp es)
@@ -212,7 +205,7 @@ module _ (t : Twins) (A : History) (legal : Legal A) (legal' : Legal (twinned t 
       (ap (own_comments_of (Some (placed t p u))) (map-append (twin_of t) A (grouped stamp es))
       ∙ comments-append (Some (placed t p u)) B (twinned t (grouped stamp es)))
       (ap (λ b. length (given b (next_comment p A) ++ []))
-      (ap (eqb (placed t p u)) (maker-is (placed t p u) stamp) ∙ itself (placed t p u)))
+      (ap (eqb (placed t p u)) (maker-is (placed t p u) stamp) ∙ eqb-self (placed t p u)))
       (few (placed t p u))
     where
       stamp : Stamp
@@ -271,7 +264,7 @@ module _ (t : Twins) (A : History) (legal : Legal A) (legal' : Legal (twinned t 
           ((λ i. added (Some (sym hers i)) B (rename twin.text command)) ∙ adds-other))
       by false other =
           let w : ℕ = twin_maker t u e in
-          let both : ArePeers t A = first (or-left (not (eqb w u)) (renames t e) (ap not other)) in
+          let both : ArePeers t A = first (or_left (not (eqb w u)) (renames t e) (ap not other)) in
           let registered : IsRegistered A w = subst (λ w. IsRegistered A w) led
           (giver-registered t A legal no_one no_other u at command both (ap (λ w. eqb w u) led ∙ other)) in
           subst (λ (stamp : Stamp). Legal (B ++ grouped stamp (map (twin_entry t) (e ∷ es))))
@@ -313,7 +306,7 @@ module _ (t : Twins) (A : History) (legal : Legal A) (legal' : Legal (twinned t 
       ∙ (λ i. grouped (stamp_by (length (accounts-twin t A i) + 1) at key)
       (registered t A legal no_one no_other 0 at name digest i))
       ∙ ap (λ (stamp : Stamp). grouped stamp (map (twin_entry t) (added None A (commands.Register name digest))))
-      (sym (stamp-same (stamp_added A call).maker (stamp_added A call) (itself (stamp_added A call).maker))))
+      (sym (stamp-same (stamp_added A call).maker (stamp_added A call) (eqb-self (stamp_added A call).maker))))
       (Legal-accepted B call k.drawn legal' (record {
         given = record {
           caller = refl;

@@ -16,7 +16,7 @@ use Rattle.cr_base.specs.HistoryFacts.{phase_of, deadline_of, role_of, is_author
 use Rattle.cr_base.specs.Lists.{is_number, is_nothing}
 use Rattle.cr_policy.specs.Sentences.{now, is_it, comes_behind, before_bidding, committee_at_work, is_over, in_time}
 use Rattle.cr_policy.specs.Sentences.{meets, lasts_or_comes_in, is_above, is_members, is_chairs}
-use Rattle.cr_policy.specs.Sentences.{on_committee, chairs, has_two_chairs, stands, wrote, in_conflict}
+use Rattle.cr_policy.specs.Sentences.{on_committee, chairs, has_two_chairs, is_live, wrote, in_conflict}
 use Rattle.cr_policy.specs.Sentences.{is_eligible, administers, has_part, may_have_it, reviews}
 use Rattle.cr_policy.specs.Sentences.{of_some, user_named, is_for_chairs_alone}
 use Rattle.cr_permissions.specs.MayDo.{may_do, may_declare, may_take_back, may_assign, may_unassign, has_written}
@@ -65,7 +65,7 @@ module _ (t : Twins) (A : History) where
       ap (λ (phase : Phase). meets at (deadline_of phase A)) (sym (phase-twin t A))
       ∙ ap (meets at) (sym (deadline-twin t A (phase_of B)))
 
-  stands-twin : (p : ℕ) → stands p A ≡ stands p B
+  stands-twin : (p : ℕ) → is_live p A ≡ is_live p B
   stands-twin p =
       λ i. list_any (λ q. eqb q p) (sym (papers-twin t A) i) && not (sym (withdrawn-twin t A p) i)
 

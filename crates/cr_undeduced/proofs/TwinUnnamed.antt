@@ -3,7 +3,8 @@
 use Rattle.std.proofs.Common.{ℕ, Bool, true, false, cond, ◌≡◌, [], ◌∷◌, ◌++◌, eqb, refl, sym, ap, ◌∙◌, ◌||◌}
 use Rattle.std.proofs.Common.{◌&&◌, Option, Some, arith}
 use Rattle.std.specs.Prelude.{is_some, not, take}
-use Rattle.std.proofs.lemmas.Bool.{true≢false, eqb-true}
+use Rattle.std.proofs.lemmas.Bool.{true≢false, eqb-true, not-true}
+use Rattle.std.proofs.Math.Bool.{and-false}
 use Rattle.cr_base.specs.declared.entry.Entry.{Entry}
 use Rattle.cr_base.specs.declared.entry.Entry.TheVariants as entries
 use Rattle.cr_base.specs.declared.entry.Stamp.{Stamp}
@@ -12,12 +13,12 @@ use Rattle.cr_base.specs.declared.words.Mode.TheVariants.{Overt, Blind, Anonymou
 use Rattle.cr_base.specs.History.{History}
 use Rattle.cr_base.specs.HistoryFacts.{is_author, is_conflict_on, mode_of, role_of, phase_of}
 use Rattle.cr_base.specs.Lists.{is_number}
+use Rattle.cr_base.proofs.Small.{eqb-self}
 use Rattle.cr_bounds.specs.ShownTo.{is_told, maker_for, user_for, where_known, oversees, administers, discusses}
 use Rattle.cr_bounds.specs.ShownTo.{is_answered, is_party, knows_writers, hides_reviewers, names_reviewers}
 use Rattle.cr_bounds.specs.ShownTo.{chairs_committee, serves, is_past_reviewing, is_past_discussion}
 use Rattle.cr_undeduced.specs.Twins.{Twins, placed, twin_maker, renames, AreUntold, NoneIsHers}
 use Rattle.cr_undeduced.specs.Twins.{IsShownNoNames, TwinsUnnamed}
-use Rattle.cr_undeduced.proofs.TwinAdds.{itself}
 use Rattle.cr_undeduced.proofs.TwinViews.{outside-moved, twins_unseen}
 
 -- ---- what she isn't
@@ -52,11 +53,8 @@ module _ (s a c k f h n p : Bool) (blind : ((h && not k) || (a && not n)) ≡ tr
           none a p = grind arith
       by false blind same = grind (arith, blind)
 
-not-told : (b : Bool) → (b && false) ≡ false
-not-told b = grind arith
-
 unknown : (told known : Bool) (v : ℕ) → known ≡ false → (told && is_some (where_known known v)) ≡ false
-unknown told known v none = ap (λ b. told && is_some (where_known b v)) none ∙ not-told told
+unknown told known v none = ap (λ b. told && is_some (where_known b v)) none ∙ and-false told
 
 untold : (told known : Bool) → told ≡ false → (told && known) ≡ false
 untold told known none = ap (λ b. b && known) none
@@ -115,17 +113,13 @@ module _ (t : Twins) (u : Option ℕ) (T : History) (shown : IsShownNoNames t u 
       by : (b : Bool) → eqb p t.paper ≡ b
           → not (eqb (cond b (cond (eqb v t.one) t.other (cond (eqb v t.other) t.one v)) v) v) ≡ true → p ≡ t.paper
       by true same moved = eqb-true p t.paper same
-      by false other moved = absurd (true≢false (sym moved ∙ ap not (itself v)))
-
-  unmoved : (b : Bool) → not b ≡ true → b ≡ false
-  unmoved false h = refl
-  unmoved true h = absurd (true≢false (sym h))
+      by false other moved = absurd (true≢false (sym moved ∙ ap not (eqb-self v)))
 
   not-one : (p v : ℕ) → not (eqb (placed t p v) v) ≡ true → is_number u v ≡ false
-  not-one p v moved = outside-moved t u shown.one shown.other p v (unmoved (eqb (placed t p v) v) moved)
+  not-one p v moved = outside-moved t u shown.one shown.other p v (not-true (eqb (placed t p v) v) moved)
 
   never : (v : ℕ) → not (eqb v v) ≡ true → ⊥
-  never v h = true≢false (sym h ∙ ap not (itself v))
+  never v h = true≢false (sym h ∙ ap not (eqb-self v))
 
   module _ (before later : History) (stamp : Stamp) where
     maker-untold : (e : Entry) → not (eqb (twin_maker t stamp.maker e) stamp.maker) ≡ true
@@ -137,7 +131,7 @@ module _ (t : Twins) (u : Option ℕ) (T : History) (shown : IsShownNoNames t u 
     maker-untold (entries.Commented paper n ordinal text) moved =
         unknown (is_told u T before later stamp.maker (entries.Commented paper n ordinal text))
         (discusses u paper T && knows_writers u T) stamp.maker (no_writers paper (at-paper paper stamp.maker moved))
-    maker-untold e moved = not-told (is_told u T before later stamp.maker e)
+    maker-untold e moved = and-false (is_told u T before later stamp.maker e)
 
     party-not : (paper user : ℕ) → not (eqb (placed t paper user) user) ≡ true → is_number u stamp.maker ≡ false
         → is_party u T stamp.maker paper user ≡ false

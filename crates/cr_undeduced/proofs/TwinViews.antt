@@ -4,7 +4,7 @@ use Rattle.std.proofs.Common.{ℕ, Bool, true, false, cond, ◌≡◌, suc, zero
 use Rattle.std.proofs.Common.{◌∙◌, ◌&&◌, Option, Some, None}
 use Rattle.std.specs.Prelude.{take, is_some, not}
 use Rattle.std.specs.List.{list_any}
-use Rattle.std.proofs.lemmas.Bool.{true≢false, eqb-true}
+use Rattle.std.proofs.lemmas.Bool.{true≢false, eqb-true, not_from_false}
 use Rattle.cr_base.specs.declared.entry.Entry.{Entry}
 use Rattle.cr_base.specs.declared.entry.Entry.TheVariants as entries
 use Rattle.cr_base.specs.declared.entry.Stamp.{Stamp}
@@ -14,6 +14,7 @@ use Rattle.cr_base.specs.Drawn.{stamped}
 use Rattle.cr_base.specs.History.{History}
 use Rattle.cr_base.specs.HistoryFacts.{is_author}
 use Rattle.cr_base.specs.Lists.{is_number}
+use Rattle.cr_base.proofs.Small.{eqb-self}
 use Rattle.cr_policy.specs.HiddenPayload.{outline, PlaceByPlace, AcceptedAlike, IsHiddenFrom}
 use Rattle.cr_policy.specs.HiddenPayload.{IsDeclaredAlike}
 use Rattle.cr_policy.specs.Part as part
@@ -31,7 +32,7 @@ use Rattle.cr_undeduced.specs.Twins.{IsOutside, TwinsUnseen}
 use Rattle.cr_undeduced.proofs.KnownParts.{shown, told}
 use Rattle.cr_undeduced.proofs.MakersFacts.{stamp-same}
 use Rattle.cr_undeduced.proofs.MakersViews.{hidden-part, part-same}
-use Rattle.cr_undeduced.proofs.TwinAdds.{author-placed, itself}
+use Rattle.cr_undeduced.proofs.TwinAdds.{author-placed}
 use Rattle.cr_undeduced.proofs.TwinFacts.{maker-is, phase-twin, withdrawn-twin, decision-twin, authors-twin}
 
 take-twin : (t : Twins) (k : ℕ) (H : History) → take k (twinned t H) ≡ twinned t (take k H)
@@ -58,7 +59,7 @@ module _ (t : Twins) (u : Option ℕ) (one : is_number u t.one ≡ false) (other
   outside-moved p v moved = by (eqb p t.paper) (eqb v t.one) refl (eqb v t.other) refl moved
     where
       same : (w : ℕ) → eqb w w ≡ false → ⊥
-      same w h = true≢false (sym (itself w) ∙ h)
+      same w h = true≢false (sym (eqb-self w) ∙ h)
 
       by : (at first : Bool) → eqb v t.one ≡ first → (second : Bool) → eqb v t.other ≡ second
           → eqb (cond at (cond first t.other (cond second t.one v)) v) v ≡ false → is_number u v ≡ false
@@ -91,7 +92,7 @@ module _ (t : Twins) (u : Option ℕ) (one : is_number u t.one ≡ false) (other
   maker-moved m (entries.Decided paper decision) moved = outside-moved paper m moved
   maker-moved m (entries.Invited paper user) moved = outside-moved paper m moved
   maker-moved m (entries.Uninvited paper user) moved = outside-moved paper m moved
-  maker-moved m e moved = absurd (true≢false (sym (itself m) ∙ moved))
+  maker-moved m e moved = absurd (true≢false (sym (eqb-self m) ∙ moved))
 
   user-outside : (stamp stamp' : Stamp) (e : Entry)
       → is_user u (entire stamp e).user ≡ is_user u (entire stamp' (twin_entry t e)).user
@@ -175,10 +176,6 @@ module _ (t : Twins) (u : Option ℕ) (T : History) (at : Around) (stamp : Stamp
       (maker_for u T at.before at.after stamp e) (told u T at stamp more e within part.by) (λ h. same) (untold other))
       ∙ ap (λ m. where_shown (sees e part.by) (Some m)) (sym (maker-is w stamp))
 
-  changed : (b : Bool) → b ≡ false → not b ≡ true
-  changed false h = refl
-  changed true h = absurd (true≢false h)
-
   module _ (hides : (e : Entry) → eqb (twin_maker t stamp.maker e) stamp.maker ≡ false → is_number u stamp.maker ≡ false)
     where
       parts-twin : (e : Entry)
@@ -192,7 +189,7 @@ module _ (t : Twins) (u : Option ℕ) (T : History) (at : Around) (stamp : Stamp
           restamped (placed t paper stamp.maker) e (hides e) (key-one u T at stamp more e) in
           λ i. record (masked (sees e) false (entire stamp e)) {
             user = user-hidden e paper user tt (user-one u T at stamp more e)
-                (λ h. unnamed (changed (eqb (placed t paper user) user) h)) i;
+                (λ h. unnamed (not_from_false (eqb (placed t paper user) user) h)) i;
             at = where_shown (sees e part.at) (Some (same.moment i));
             key = same.key i;
           }
@@ -202,7 +199,7 @@ module _ (t : Twins) (u : Option ℕ) (T : History) (at : Around) (stamp : Stamp
           restamped (placed t paper stamp.maker) e (hides e) (key-one u T at stamp more e) in
           λ i. record (masked (sees e) false (entire stamp e)) {
             user = user-hidden e paper user tt (user-one u T at stamp more e)
-                (λ h. unnamed (changed (eqb (placed t paper user) user) h)) i;
+                (λ h. unnamed (not_from_false (eqb (placed t paper user) user) h)) i;
             at = where_shown (sees e part.at) (Some (same.moment i));
             key = same.key i;
           }
@@ -212,7 +209,7 @@ module _ (t : Twins) (u : Option ℕ) (T : History) (at : Around) (stamp : Stamp
           restamped (placed t paper stamp.maker) e (hides e) (key-one u T at stamp more e) in
           λ i. record (masked (sees e) false (entire stamp e)) {
             user = user-hidden e paper user tt (user-one u T at stamp more e)
-                (λ h. unnamed (changed (eqb (placed t paper user) user) h)) i;
+                (λ h. unnamed (not_from_false (eqb (placed t paper user) user) h)) i;
             at = where_shown (sees e part.at) (Some (same.moment i));
             key = same.key i;
           }
@@ -222,7 +219,7 @@ module _ (t : Twins) (u : Option ℕ) (T : History) (at : Around) (stamp : Stamp
           restamped (placed t paper stamp.maker) e (hides e) (key-one u T at stamp more e) in
           λ i. record (masked (sees e) false (entire stamp e)) {
             user = user-hidden e paper user tt (user-one u T at stamp more e)
-                (λ h. unnamed (changed (eqb (placed t paper user) user) h)) i;
+                (λ h. unnamed (not_from_false (eqb (placed t paper user) user) h)) i;
             at = where_shown (sees e part.at) (Some (same.moment i));
             key = same.key i;
           }
@@ -232,7 +229,7 @@ module _ (t : Twins) (u : Option ℕ) (T : History) (at : Around) (stamp : Stamp
           restamped (placed t paper stamp.maker) e (hides e) (key-one u T at stamp more e) in
           λ i. record (masked (sees e) false (entire stamp e)) {
             user = user-hidden e paper user tt (user-one u T at stamp more e)
-                (λ h. unnamed (changed (eqb (placed t paper user) user) h)) i;
+                (λ h. unnamed (not_from_false (eqb (placed t paper user) user) h)) i;
             at = where_shown (sees e part.at) (Some (same.moment i));
             key = same.key i;
           }
@@ -242,7 +239,7 @@ module _ (t : Twins) (u : Option ℕ) (T : History) (at : Around) (stamp : Stamp
           restamped (placed t paper stamp.maker) e (hides e) (key-one u T at stamp more e) in
           λ i. record (masked (sees e) false (entire stamp e)) {
             by = maker-hidden e (placed t paper stamp.maker) tt (maker-one u T at stamp more e)
-                (λ h. unmade (changed (eqb (placed t paper stamp.maker) stamp.maker) h)) i;
+                (λ h. unmade (not_from_false (eqb (placed t paper stamp.maker) stamp.maker) h)) i;
             at = where_shown (sees e part.at) (Some (same.moment i));
             key = same.key i;
           }
@@ -252,14 +249,14 @@ module _ (t : Twins) (u : Option ℕ) (T : History) (at : Around) (stamp : Stamp
           restamped (placed t paper stamp.maker) e (hides e) (key-one u T at stamp more e) in
           λ i. record (masked (sees e) false (entire stamp e)) {
             by = maker-hidden e (placed t paper stamp.maker) tt (maker-one u T at stamp more e)
-                (λ h. unmade (changed (eqb (placed t paper stamp.maker) stamp.maker) h)) i;
+                (λ h. unmade (not_from_false (eqb (placed t paper stamp.maker) stamp.maker) h)) i;
             at = where_shown (sees e part.at) (Some (same.moment i));
             key = same.key i;
           }
       parts-twin (entries.Submitted paper title abstract) unmade unnamed =
           let e : Entry = entries.Submitted paper title abstract in
           ap (λ (other : Stamp). masked (sees e) false (entire other e))
-          (sym (stamp-same stamp.maker stamp (itself stamp.maker)))
+          (sym (stamp-same stamp.maker stamp (eqb-self stamp.maker)))
       parts-twin e unmade unnamed =
           let same : Restamped (stamp_of (twin_maker t stamp.maker e) stamp) e =
           restamped (twin_maker t stamp.maker e) e (hides e) (key-one u T at stamp more e) in

@@ -6,13 +6,13 @@ use Rattle.std.specs.Prelude.{map, filter, not, is_ok, is_some, unwrap_or}
 use Rattle.std.specs.List.{flat_map}
 use Rattle.std.specs.Option.{option_copied, option_map}
 use Rattle.std.proofs.lemmas.Bool.{true≢false}
+use Rattle.std.proofs.Math.Bool.{or-true}
 use Rattle.cr_base.specs.declared.reply.Reply.{Reply}
 use Rattle.cr_base.specs.declared.reply.Reply.TheVariants as replies
 use Rattle.cr_base.specs.declared.reply.Rule.{Rule}
 use Rattle.cr_base.specs.declared.review.ReviewLine.{ReviewLine}
 use Rattle.cr_base.specs.declared.review.WrittenForm.{WrittenForm}
 use Rattle.cr_base.specs.declared.standing.Standing.{Standing}
-use Rattle.cr_base.specs.declared.words.Phase.TheVariants.{Discussion}
 use Rattle.cr_base.specs.Accounts.{lines_of}
 use Rattle.cr_base.specs.Answering.{reply_or_rule, review_told, reviews_answered, tells_response, uploads_told}
 use Rattle.cr_base.specs.Labels.{by_labels, most_labels}
@@ -21,11 +21,12 @@ use Rattle.cr_base.specs.History.{FormTold, Upload}
 use Rattle.cr_base.specs.HistoryFacts.{assigned_under}
 use Rattle.cr_base.specs.Lists.{is_nothing, last, last_from, listed}
 use Rattle.cr_base.specs.Page.{shows_reviewer}
-use Rattle.cr_base.specs.Phases.{is_from, authors_read_reviews}
+use Rattle.cr_base.specs.Phases.{committee_reads_from, is_from, authors_read_reviews}
 use Rattle.cr_base.specs.Reviews.{early_form_in, forms_discussed_in, forms_in, is_written_in, last_form_in}
 use Rattle.cr_base.specs.Reviews.{written_told}
 use Rattle.cr_base.specs.Seats.{ordinal_in, seats_in}
 use Rattle.cr_base.specs.Tables.{Tables}
+use Rattle.cr_base.proofs.Small.{is_some-option_map}
 use Rattle.cr_view.specs.Fields.{some_label}
 use Rattle.cr_view.specs.Reviews.{reviews_at}
 use Rattle.cr_view.proofs.JudgeLaws.{made_of, judged-made, passed, refused}
@@ -99,17 +100,9 @@ some-listed : {A : Type 0} (o : Option A) → not (is_nothing (listed o)) ≡ is
 some-listed None = refl
 some-listed (Some x) = refl
 
-pub some-option_map : {A B : Type 0} (f : A → B) (o : Option A) → is_some (option_map f o) ≡ is_some o
-some-option_map f None = refl
-some-option_map f (Some x) = refl
-
 pub some-copied : {T : Type 0} (o : Option (Bor T)) → is_some o ≡ is_some (option_copied o)
 some-copied None = refl
 some-copied (Some x) = refl
-
-or-true : (b : Bool) → (b || true) ≡ true
-or-true true = refl
-or-true false = refl
 
 -- ---- versions
 
@@ -118,7 +111,7 @@ pub some-version : (author : Bool) (uploads : List Upload)
     → is_some (option_map (λ (u : Upload). u.version) (last uploads))
     ≡ not (is_nothing (map (λ (u : Upload). u.version) (uploads_told author uploads)))
 some-version author uploads =
-    some-option_map (λ (u : Upload). u.version) (last uploads)
+    is_some-option_map (λ (u : Upload). u.version) (last uploads)
     ∙ told author
     ∙ sym (some-map (λ (u : Upload). u.version) (uploads_told author uploads))
   where
@@ -169,22 +162,22 @@ some-same written other same n = ap (λ (w : ℕ → Bool). some_label w n) (λ 
 some-last-form : (forms : List WrittenForm)
     → not (is_nothing (listed (option_map written_told (last forms)))) ≡ not (is_nothing forms)
 some-last-form forms =
-    some-listed (option_map written_told (last forms)) ∙ some-option_map written_told (last forms) ∙ some-last forms
+    some-listed (option_map written_told (last forms)) ∙ is_some-option_map written_told (last forms) ∙ some-last forms
 
 abbrev discussed : List WrittenForm → List WrittenForm
 discussed forms =
-    listed (last (filter (λ (w : WrittenForm). not (is_from Discussion w.phase)) forms))
-    ++ filter (λ (w : WrittenForm). is_from Discussion w.phase) forms
+    listed (last (filter (λ (w : WrittenForm). not (is_from committee_reads_from w.phase)) forms))
+    ++ filter (λ (w : WrittenForm). is_from committee_reads_from w.phase) forms
 
 some-discussed : (forms : List WrittenForm) → not (is_nothing (discussed forms)) ≡ not (is_nothing forms)
 some-discussed [] = refl
-some-discussed (w ∷ forms) = by (is_from Discussion w.phase)
+some-discussed (w ∷ forms) = by (is_from committee_reads_from w.phase)
   where
     early : List WrittenForm
-    early = filter (λ (v : WrittenForm). not (is_from Discussion v.phase)) forms
+    early = filter (λ (v : WrittenForm). not (is_from committee_reads_from v.phase)) forms
 
     late : List WrittenForm
-    late = filter (λ (v : WrittenForm). is_from Discussion v.phase) forms
+    late = filter (λ (v : WrittenForm). is_from committee_reads_from v.phase) forms
 
     by : (b : Bool) → not (is_nothing (listed (last (cond (not b) (w ∷ early) early)) ++ cond b (w ∷ late) late)) ≡ true
     by true = some-append (listed (last early)) (w ∷ late) ∙ or-true (not (is_nothing (listed (last early))))

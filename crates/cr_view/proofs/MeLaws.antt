@@ -1,11 +1,10 @@
 -- SPDX-License-Identifier: Apache-2.0 OR MIT
 -- What a user is told of herself, by reads of the tables.
 use Rattle.std.proofs.Common.{ℕ, Bool, true, false, cond, ◌≡◌, ◌≤◌, ◌+◌, ◌<◌, List, [], ◌∷◌, ◌++◌, length}
-use Rattle.std.proofs.Common.{drop, get_or, eqb, refl, sym, ap, subst, ◌∙◌, arith, Option, Some, is_some, ◌&&◌, ◌||◌}
+use Rattle.std.proofs.Common.{drop, get_or, eqb, refl, sym, ap, subst, ◌∙◌, Option, Some, is_some, ◌&&◌, ◌||◌}
 use Rattle.std.specs.Prelude.{map, not, filter, find, unwrap_or, nat_le}
 use Rattle.std.specs.Option.{option_map}
 use Rattle.std.proofs.lemmas.Bool.{and_parts, eqb-true, eq-eqb, true≢false}
-use Rattle.std.proofs.lemmas.Bool.Decides.{nat_tests}
 use Rattle.cr_base.specs.declared.entry.Account.{Account}
 use Rattle.cr_base.specs.declared.me.Me.{Me}
 use Rattle.cr_base.specs.declared.seat.Seat.{Seat}
@@ -30,6 +29,7 @@ use Rattle.cr_base.specs.Words.{is_member}
 use Rattle.cr_base.proofs.PairLaws.{list_any-others_of}
 use Rattle.cr_base.proofs.RisingLists.{has_number, numbers-others_of}
 use Rattle.cr_base.proofs.TieLaws.{within-pair}
+use Rattle.cr_base.proofs.Small.{within-low, within-high}
 use Rattle.cr_view.proofs.AnswerLaws.{walk-step}
 
 -- in conflict, and no author: declared so, and no author
@@ -47,12 +47,6 @@ seat-within n p u (s ∷ ts) all there = by (eqb p s.pair.paper) refl there (sea
     parts : ((nat_le 1 s.pair.paper && nat_le s.pair.paper n) ≡ true) × (are_within n ts ≡ true)
     parts = and_parts (nat_le 1 s.pair.paper && nat_le s.pair.paper n) (are_within n ts) all
 
-    low : (p n : ℕ) → (nat_le 1 p && nat_le p n) ≡ true → 1 ≤ p
-    low p n h = grind (arith, nat_tests)
-
-    high : (p n : ℕ) → (nat_le 1 p && nat_le p n) ≡ true → p ≤ n
-    high p n h = grind (arith, nat_tests)
-
     hers : List (Tie Seat) → Option (Tie Seat)
     hers seats = find (λ (x : Tie Seat). is_number u x.pair.user) (filter (λ (x : Tie Seat). not x.value.vacated) seats)
 
@@ -62,7 +56,7 @@ seat-within n p u (s ∷ ts) all there = by (eqb p s.pair.paper) refl there (sea
         → (is_some (ordinal_in ts u p) ≡ true → (1 ≤ p) × (p ≤ n)) → (1 ≤ p) × (p ≤ n)
     by true same h rest =
         let e : s.pair.paper ≡ p = sym (eqb-true p s.pair.paper same) in
-        subst (λ (m : ℕ). (1 ≤ m) × (m ≤ n)) e (low s.pair.paper n parts.0, high s.pair.paper n parts.0)
+        subst (λ (m : ℕ). (1 ≤ m) × (m ≤ n)) e (within-low s.pair.paper n parts.0, within-high s.pair.paper n parts.0)
     by false other h rest = rest h
 
 -- numbers, as ties of a user to the papers of these numbers

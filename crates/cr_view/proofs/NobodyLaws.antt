@@ -1,10 +1,11 @@
 -- SPDX-License-Identifier: Apache-2.0 OR MIT
 -- Nobody has no ties to a paper, no seat and no invitation.
-use Rattle.std.proofs.Common.{ℕ, Bool, true, false, ◌≡◌, List, [], ◌∷◌, refl, sym, ap, ◌∙◌, ◌||◌, ◌&&◌, Option, Some}
+use Rattle.std.proofs.Common.{ℕ, false, ◌≡◌, List, [], ◌∷◌, refl, sym, ap, ◌∙◌, ◌||◌, Option, Some}
 use Rattle.std.proofs.Common.{None}
 use Rattle.std.specs.Prelude.{find, is_some, not}
 use Rattle.std.specs.List.{list_any}
 use Rattle.std.specs.Option.{option_map}
+use Rattle.std.proofs.Math.Bool.{and-false}
 use Rattle.cr_base.specs.declared.pairs.Tie.{Tie}
 use Rattle.cr_base.specs.declared.seat.Seat.{Seat}
 use Rattle.cr_base.specs.Lists.{at_some, is_number}
@@ -49,8 +50,4 @@ nobody-reviewer seats user (Some p) is = ap is_some (nobody-seat seats user p is
 -- nor is nobody an external
 pub nobody-external : (t : Tables) (user : Option ℕ) (p : ℕ) → user ≡ None → false ≡ is_external_in t user p
 nobody-external t user p is =
-    sym (ap (λ (u : Option ℕ). is_external_in t u p) is ∙ no (not (is_member (role_in t.accounts None))))
-  where
-    no : (b : Bool) → (b && false) ≡ false
-    no true = refl
-    no false = refl
+    sym (ap (λ (u : Option ℕ). is_external_in t u p) is ∙ and-false (not (is_member (role_in t.accounts None))))

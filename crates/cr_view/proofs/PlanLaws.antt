@@ -20,8 +20,9 @@ use Rattle.cr_base.specs.Tables.{Tables}
 use Rattle.cr_base.specs.Ties.{bid_in, is_author_in, is_conflict_on_in, pair_of}
 use Rattle.cr_base.specs.Words.{no_bid}
 use Rattle.cr_base.proofs.FiledLaws.{filter-filter}
-use Rattle.cr_base.proofs.ListLaws.{length-numbers_from, turned}
+use Rattle.cr_base.proofs.ListLaws.{length-numbers_from}
 use Rattle.cr_base.proofs.PairLaws.{list_any-others_of}
+use Rattle.cr_base.proofs.Small.{eqb-swap}
 use Rattle.cr_view.specs.Plans.{is_planned_in, one}
 use Rattle.cr_view.proofs.AcceptedLaws.{get_or-numbers_from}
 
@@ -43,7 +44,7 @@ bid-found : (p user : ℕ) (ts : List (Tie ℕ)) → unwrap_or (tie_value (pair_
     (find (λ (bid : BidTold). eqb bid.user user) (map tell (ties_of ByPaper p ts))) no_bid
 bid-found p user [] = refl
 bid-found p user (t ∷ ts) =
-    by (eqb p t.pair.paper) (eqb user t.pair.user) (turned t.pair.user user) (bid-found p user ts)
+    by (eqb p t.pair.paper) (eqb user t.pair.user) (eqb-swap t.pair.user user) (bid-found p user ts)
   where
     held : Option BidTold
     held = find (λ (bid : BidTold). eqb bid.user user) (map tell (ties_of ByPaper p ts))

@@ -1,13 +1,14 @@
 -- SPDX-License-Identifier: Apache-2.0 OR MIT
 -- What reports read, by reads of the tables.
-use Rattle.std.proofs.Common.{ℕ, ◌≡◌, ◌+◌, List, [], ◌∷◌, ◌++◌, length, length-append, map, refl, sym, ap, ◌∙◌, arith}
+use Rattle.std.proofs.Common.{ℕ, ◌≡◌, ◌+◌, List, [], ◌∷◌, ◌++◌, length, length-append, map, refl, sym, ap, ◌∙◌}
 use Rattle.std.proofs.Common.{Option, Some, None, suc}
 use Rattle.std.specs.Option.{option_map}
 use Rattle.cr_base.specs.declared.review.WrittenForm.{WrittenForm}
-use Rattle.cr_base.specs.declared.words.Phase.TheVariants.{Discussion}
 use Rattle.cr_base.specs.Lists.{last, last_from, listed, total}
 use Rattle.cr_base.specs.Reviews.{forms_from, last_form_before, written_told}
 use Rattle.cr_base.specs.Tables.{Tables}
+use Rattle.cr_base.specs.Phases.{committee_reads_from}
+use Rattle.cr_base.proofs.Small.{total-append}
 use Rattle.cr_view.specs.declared.reports.ScoreSum.{ScoreSum}
 use Rattle.cr_view.specs.Reports.{last_discussed, score_sum}
 
@@ -28,10 +29,10 @@ last-told forms = last_from-told None forms
 
 -- the last of the later ones is the last that is discussed
 pub discussed-late : (t : Tables) (p o : ℕ) (form : WrittenForm)
-    → Some form ≡ last (forms_from t.reviews p o Discussion)
+    → Some form ≡ last (forms_from t.reviews p o committee_reads_from)
     → option_map written_told (Some form) ≡ last_discussed t p o
 discussed-late t p o form is =
-    split (forms_from t.reviews p o Discussion) (last_form_before t.reviews p o Discussion) is
+    split (forms_from t.reviews p o committee_reads_from) (last_form_before t.reviews p o committee_reads_from) is
   where
     split : (late : List WrittenForm) (early : Option WrittenForm) → Some form ≡ last late
         → option_map written_told (Some form) ≡ last (map written_told (listed early ++ late))
@@ -42,9 +43,9 @@ discussed-late t p o form is =
 
 -- and where there are none, the last of the earlier ones
 pub discussed-early : (t : Tables) (p o : ℕ) (form : Option WrittenForm)
-    → None ≡ last (forms_from t.reviews p o Discussion)
-    → form ≡ last_form_before t.reviews p o Discussion → option_map written_told form ≡ last_discussed t p o
-discussed-early t p o form none is = split (forms_from t.reviews p o Discussion) none
+    → None ≡ last (forms_from t.reviews p o committee_reads_from)
+    → form ≡ last_form_before t.reviews p o committee_reads_from → option_map written_told form ≡ last_discussed t p o
+discussed-early t p o form none is = split (forms_from t.reviews p o committee_reads_from) none
   where
     some-from : {A : Type 0} (x : A) (xs : List A) → None ≡ last_from (Some x) xs → (n : ℕ) → n ≡ suc n
     some-from x [] h = cc
@@ -52,24 +53,14 @@ discussed-early t p o form none is = split (forms_from t.reviews p o Discussion)
 
     split : (late : List WrittenForm) → None ≡ last late
         → option_map written_told form
-        ≡ last (map written_told (listed (last_form_before t.reviews p o Discussion) ++ late))
+        ≡ last (map written_told (listed (last_form_before t.reviews p o committee_reads_from) ++ late))
     split [] h =
         ap (λ (q : Option WrittenForm). option_map written_told q)
-        (is ∙ sym (last_from-listed (last_form_before t.reviews p o Discussion) []))
-        ∙ sym (last-told (listed (last_form_before t.reviews p o Discussion) ++ []))
+        (is ∙ sym (last_from-listed (last_form_before t.reviews p o committee_reads_from) []))
+        ∙ sym (last-told (listed (last_form_before t.reviews p o committee_reads_from) ++ []))
     split (w ∷ late) h = let odd : 0 ≡ suc 0 = some-from w late h 0 in cc
 
 -- ---- scores
-
-total-append : (xs ys : List ℕ) → total (xs ++ ys) ≡ total xs + total ys
-total-append [] ys = none (total ys)
-  where
-    none : (n : ℕ) → n ≡ 0 + n
-    none n = omega arith
-total-append (x ∷ xs) ys = more x (total (xs ++ ys)) (total xs) (total ys) (total-append xs ys)
-  where
-    more : (x n a b : ℕ) → n ≡ a + b → x + n ≡ x + a + b
-    more x n a b h = omega (arith, h)
 
 -- with more scores
 pub sum-step : (old new : ScoreSum) (before more : List ℕ) → old ≡ score_sum before

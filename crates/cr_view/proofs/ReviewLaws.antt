@@ -23,7 +23,7 @@ use Rattle.cr_base.specs.Labels.{by_labels, most_labels}
 use Rattle.cr_base.specs.History.{SeatTold, FormTold}
 use Rattle.cr_base.specs.HistoryFacts.{assigned_under}
 use Rattle.cr_base.specs.Lists.{is_nothing, last, listed}
-use Rattle.cr_base.specs.Phases.{is_from, authors_read_reviews}
+use Rattle.cr_base.specs.Phases.{committee_reads_from, is_from, authors_read_reviews}
 use Rattle.cr_base.specs.Reviews.{forms_in, last_form_before, forms_discussed_in, is_written_in, written_told}
 use Rattle.cr_base.specs.Filed.{filed_of}
 use Rattle.cr_base.specs.Page.{where_told}
@@ -149,13 +149,13 @@ label-authors t by p o heading form before author is =
 -- who is no author is told the last before the discussion, and all later ones
 pub label-discussed : (t : Tables) (by : Standing) (p o : ℕ) (heading : Heading) (form : Option WrittenForm)
     (forms : List WrittenForm)
-    (before middle : List ReviewLine) → by.author ≡ false → form ≡ last_form_before t.reviews p o Discussion
+    (before middle : List ReviewLine) → by.author ≡ false → form ≡ last_form_before t.reviews p o committee_reads_from
     → forms ≡ filed_of p t.reviews.forms → middle ≡ before ++ lines heading (listed form)
-    → middle ++ lines heading (forms_under o Discussion forms) ≡ before ++ map (review_line heading)
+    → middle ++ lines heading (forms_under o committee_reads_from forms) ≡ before ++ map (review_line heading)
     (forms_shown t by p o)
 label-discussed t by p o heading form forms before middle other is are pushed =
     let first : List ReviewLine = lines heading (listed form) in
-    let later : List WrittenForm = forms_under o Discussion forms in
+    let later : List WrittenForm = forms_under o committee_reads_from forms in
     let shown : Bool → List FormTold =
     λ author. cond author (listed (authors_form (shown_in_tables t) by p o)) (forms_discussed_in t.reviews p o) in
     ap (λ (l : List ReviewLine). l ++ lines heading later) pushed
@@ -163,9 +163,9 @@ label-discussed t by p o heading form forms before middle other is are pushed =
     ∙ ap (λ (l : List ReviewLine). before ++ l)
     (sym (lines-append heading (listed form) later)
     ∙ ap (λ (w : Option WrittenForm). lines heading (listed w ++ later)) is
-    ∙ ap (λ (ws : List WrittenForm). lines heading (listed (last_form_before t.reviews p o Discussion) ++ ws))
-    (forms-under o Discussion forms
-    ∙ ap (λ (ws : List WrittenForm). filter (λ (w : WrittenForm). is_from Discussion w.phase)
+    ∙ ap (λ (ws : List WrittenForm). lines heading (listed (last_form_before t.reviews p o committee_reads_from) ++ ws))
+    (forms-under o committee_reads_from forms
+    ∙ ap (λ (ws : List WrittenForm). filter (λ (w : WrittenForm). is_from committee_reads_from w.phase)
     (filter (λ (w : WrittenForm). w.ordinal == o) ws)) are)
     ∙ sym (ap (λ (b : Bool). map (review_line heading) (shown b)) other))
 
@@ -203,8 +203,9 @@ label-unwritten t by p o none =
         (cond final (option_map written_told (last forms))
         (cond opened
         (option_map written_told (last (filter (λ (w : WrittenForm). not (is_from Response w.phase)) forms))) None)))
-        (map written_told (listed (last (filter (λ (w : WrittenForm). not (is_from Discussion w.phase)) forms))
-        ++ filter (λ (w : WrittenForm). is_from Discussion w.phase) forms)))
+        (map written_told
+        (listed (last (filter (λ (w : WrittenForm). not (is_from committee_reads_from w.phase)) forms))
+        ++ filter (λ (w : WrittenForm). is_from committee_reads_from w.phase) forms)))
     split [] true true opened h = refl
     split [] true false true h = refl
     split [] true false false h = refl

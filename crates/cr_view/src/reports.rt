@@ -15,8 +15,8 @@ ghost use Rattle.cr_view.specs.Reports.{last_discussed, score_sum, score_under};
 
 use crate::live::Live;
 use cr_base::{
-    Grade, MOST_LABELS, Ordinal, PaperNo, Phase, Report, Rule, Seat, Standing, Steps, Tie, UserNo,
-    WrittenForm,
+    COMMITTEE_READS_FROM, Grade, MOST_LABELS, Ordinal, PaperNo, Report, Rule, Seat, Standing,
+    Steps, Tie, UserNo, WrittenForm,
 };
 use cr_reviews::Labels;
 
@@ -201,14 +201,14 @@ impl Live {
     fn last_discussed(&self, paper: PaperNo, label: Ordinal) -> Option<&WrittenForm>
         ensures { option_map written_told (option_copied result) ≡ last_discussed self.now.tables paper label }
     {
-        match self
-            .reviews
-            .last_since(paper, label, Phase::Discussion, &mut Steps::uncounted())
-        {
+        match self.reviews.last_since(paper, label, COMMITTEE_READS_FROM, &mut Steps::uncounted()) {
             Some(form) => Some(form),
-            None => self
-                .reviews
-                .last_before(paper, label, Phase::Discussion, &mut Steps::uncounted()),
+            None => self.reviews.last_before(
+                paper,
+                label,
+                COMMITTEE_READS_FROM,
+                &mut Steps::uncounted(),
+            ),
         }
     }
 }

@@ -19,8 +19,8 @@ use crate::page::shared_where;
 use crate::queries::AnswerError;
 use cr_anonymity::shows_reviewer;
 use cr_base::{
-    MOST_LABELS, Ordinal, PaperNo, Phase, Reply, ReviewLine, ReviewLines, Rule, Seat, Short,
-    Standing, Steps, Tie, UserNo, WrittenForm,
+    COMMITTEE_READS_FROM, MOST_LABELS, Ordinal, PaperNo, Phase, Reply, ReviewLine, ReviewLines,
+    Rule, Seat, Short, Standing, Steps, Tie, UserNo, WrittenForm,
 };
 use std::alloc::{AllocError, Global};
 
@@ -290,12 +290,15 @@ impl Live {
         if by.author {
             return push_form(lines, &heading, self.authors_form(by, paper, label));
         }
-        let before = self
-            .reviews
-            .last_before(paper, label, Phase::Discussion, &mut Steps::uncounted());
+        let before = self.reviews.last_before(
+            paper,
+            label,
+            COMMITTEE_READS_FROM,
+            &mut Steps::uncounted(),
+        );
         push_form(lines, &heading, before)?;
         let forms = self.reviews.forms(paper, &mut Steps::uncounted());
-        push_forms(lines, &heading, forms, Phase::Discussion)
+        push_forms(lines, &heading, forms, COMMITTEE_READS_FROM)
     }
 
     /// Returns the form of a label that its paper's authors are told: from the notification on the last; and before it

@@ -7,19 +7,17 @@ use Rattle.std.specs.Prelude.{codes, slice_index}
 use Rattle.std.specs.Char.{is_ascii_digit}
 use Rattle.std.specs.List.{list_all}
 use Rattle.std.specs.Str.Parse.{AllDigits, ParsesUnsigned, digits_value}
-use Rattle.std.proofs.lemmas.Bool.{and_parts, ltb-true}
-use Rattle.std.proofs.lemmas.Bool.Decides.{nat_tests}
+use Rattle.std.proofs.lemmas.Bool.{and_parts, ltb-true, leb-true, le-leb}
 use Rattle.std.proofs.lemmas.Str.Parse.{digits_value_short, numerals_by_value, parse_digits, tells_digits}
 use Rattle.cr_base.proofs.ParseLaws.{digits, low_digits}
 use Rattle.cr_base.specs.Keys.{IsKeyOrNone, command_number_of, last_command_number}
-use Rattle.cr_base.specs.Logins.{ask_wants_login}
+use Rattle.cr_base.specs.Traits.{ask_reads_number, ask_wants_login, traits_of}
 use Rattle.cr_base.specs.declared.ask.Ask.{Ask}
-use Rattle.cr_base.specs.declared.ask.Ask.TheVariants as asks
 use Rattle.cr_bodies.proofs.Marks.{mark-length}
 use Rattle.cr_http.specs.Head.{values_of}
 use Rattle.cr_http.specs.Requests.{RequestText}
 use Rattle.cr_wire.specs.Bounds.{IsKeyFor}
-use Rattle.cr_wire.specs.Number.{ask_reads_number, is_command_number, key_of, number_by, number_for, number_of}
+use Rattle.cr_wire.specs.Number.{is_command_number, key_of, number_by, number_for, number_of}
 use Rattle.cr_wire.specs.Paper.{is_number}
 use Rattle.cr_wire.specs.Query.{is_short_number}
 use Rattle.cr_wire.specs.declared.number.BadCommandNumber.{BadCommandNumber}
@@ -31,14 +29,11 @@ unread k text is fails =
     let front =
     and_parts (nat_le 1 (length text) && not (slice_index text 0 == 48)) (list_all is_ascii_digit text) is in
     let some : 1 ≤ length text =
-    from_test 1 (length text) (and_parts (nat_le 1 (length text)) (not (slice_index text 0 == 48)) front.0).0 in
+    leb-true 1 (length text) (and_parts (nat_le 1 (length text)) (not (slice_index text 0 == 48)) front.0).0 in
     let never = parse_digits (numerals_by_value (AllDigits 10) tells_digits) {E = Unit {0}} k text (Err tt) fails
     (digits text front.1) in
     by (is_number text) (nat_lt (digits_value 10 text) (2 ^ k)) is refl (λ below. never (some, below))
   where
-    from_test : (n m : ℕ) → IsTrue (nat_le n m) → n ≤ m
-    from_test n m h = grind (arith, nat_tests)
-
     by : (a b : Bool) → a ≡ true → nat_lt (digits_value 10 text) (2 ^ k) ≡ b → (digits_value 10 text < 2 ^ k → ⊥)
         → 0 ≡ (if a && b then digits_value 10 text else 0)
     by true true is below never = absurd (never (ltb-true (digits_value 10 text) (2 ^ k) below))
@@ -58,13 +53,10 @@ number_parts value is =
     let front = and_parts (nat_le 1 (length value)) (not (slice_index value 0 == 48)) digits.0 in
     (front.0, front.1, digits.1, all.0)
 
-at_most : (n m : ℕ) → IsTrue (nat_le n m) → n ≤ m
-at_most n m h = grind (arith, nat_tests)
-
 -- what its decimal value is read of
 pub number_digits : (value : List ℕ) → IsTrue (is_command_number value) → IsTrue (list_all is_ascii_digit value)
     × (length value ≤ 18)
-number_digits value is = let all = number_parts value is in (all.2, at_most (length value) 18 all.3)
+number_digits value is = let all = number_parts value is in (all.2, leb-true (length value) 18 all.3)
 
 -- it is one of the numbers that commands may have
 number_low : (value : List ℕ) → IsTrue (is_command_number value) → 1 ≤ digits_value 10 value
@@ -78,15 +70,12 @@ number_high value is =
     digits_value_short (numerals_by_value (AllDigits 10) tells_digits) value 18 (digits value read.0) read.1 in
     omega (arith, below)
 
-tested : (n m : ℕ) → n ≤ m → nat_le n m ≡ true
-tested n m h = grind (arith, nat_tests)
-
 number_there : (value : List ℕ) → IsTrue (is_command_number value)
     → command_number_of (digits_value 10 value) ≡ Some (digits_value 10 value)
 number_there value is =
     rw (
-      tested 1 (digits_value 10 value) (number_low value is),
-      tested (digits_value 10 value) last_command_number (number_high value is),
+      le-leb 1 (digits_value 10 value) (number_low value is),
+      le-leb (digits_value 10 value) last_command_number (number_high value is),
     ) refl
 
 -- so reading it gives it
@@ -125,12 +114,7 @@ by-values r (value ∷ other ∷ values) number told = cc
 
 -- whoever may tell a number is logged in
 reads-wants : (ask : Ask) → IsTrue (ask_reads_number ask) → IsTrue (ask_wants_login ask)
-reads-wants asks.Register reads = reads
-reads-wants asks.Accounts reads = reads
-reads-wants asks.Phase reads = reads
-reads-wants asks.Deadlines reads = reads
-reads-wants asks.AcceptedPapers reads = reads
-reads-wants ask reads = refl
+reads-wants ask reads = (and_parts (traits_of ask).changes (ask_wants_login ask) reads).1
 
 -- so the key that a request tells is one that its command may have
 pub key-fits : (ask : Ask) (r : RequestText) (number : Option ℕ) → number_for ask r.head.fields ≡ Ok number
@@ -155,7 +139,7 @@ short_digits text is =
     let all = and_parts (is_number text) (nat_le (length text) 3) is in
     let digits =
     and_parts (nat_le 1 (length text) && not (slice_index text 0 == 48)) (list_all is_ascii_digit text) all.0 in
-    (digits.1, omega (arith, at_most (length text) 3 all.1))
+    (digits.1, omega (arith, leb-true (length text) 3 all.1))
 
 -- it is at least 1
 pub short_low : (text : List ℕ) → IsTrue (is_short_number text) → 1 ≤ digits_value 10 text

@@ -1,15 +1,24 @@
 -- SPDX-License-Identifier: Apache-2.0 OR MIT
--- What a request wishes, by its method, its target, its number and its body: of its query string only searches and
--- plans are told.
-use Rattle.std.specs.Prelude.{ℕ, List, Bool, true, false, IsTrue, ◌||◌, Option, Some, None}
+-- What a request wishes, by its method, its target, its number and its body or its query string. Which of these are
+-- read, its traits tell (`Traits` of cr_base).
+use Rattle.std.specs.Prelude.{ℕ, List, Bool, true, false, IsTrue, Option, Some, None}
 use Rattle.std.specs.Prelude.{Result, Ok, Err, option_and_then, option_map, if◌then◌else◌}
 use Rattle.std.specs.Option.{option_map_or}
 use Rattle.std.specs.Str.{is_utf8}
+use Rattle.cr_base.specs.Reports.{report_on}
+use Rattle.cr_base.specs.Traits.{looks_behind, task_traits, traits_of}
+use Rattle.cr_base.specs.declared.ask.Ask.{Ask}
+use Rattle.cr_base.specs.declared.ask.Ask.TheVariants as asks
+use Rattle.cr_base.specs.declared.ask.Carrier.{Carrier}
+use Rattle.cr_base.specs.declared.ask.Carrier.TheVariants.{Json, Content}
+use Rattle.cr_base.specs.declared.ask.Question.{Question}
+use Rattle.cr_base.specs.declared.ask.Question.TheVariants as questions
+use Rattle.cr_base.specs.declared.ask.Task.{Task}
+use Rattle.cr_base.specs.declared.ask.Task.TheVariants as tasks
 use Rattle.cr_base.specs.declared.bulk.BulkRow.{BulkRow}
 use Rattle.cr_base.specs.declared.command.Command.{Command}
 use Rattle.cr_base.specs.declared.command.Command.TheVariants as commands
 use Rattle.cr_base.specs.declared.command.Query.TheVariants as queries
-use Rattle.cr_base.specs.declared.report.Report.TheVariants as reports
 use Rattle.cr_base.specs.declared.retry.RetryKey.{RetryKey}
 use Rattle.cr_bodies.specs.Bodies.{command_read}
 use Rattle.cr_bulk.specs.Rows.{parse_rows}
@@ -17,8 +26,6 @@ use Rattle.cr_http.specs.Requests.{RequestText}
 use Rattle.cr_routes.specs.Asks.{ask_at}
 use Rattle.cr_routes.specs.Parts.{FoundPath, found_at}
 use Rattle.cr_routes.specs.Methods.{method_of}
-use Rattle.cr_base.specs.declared.ask.Ask.{Ask}
-use Rattle.cr_base.specs.declared.ask.Ask.TheVariants as asks
 use Rattle.cr_wire.specs.Caller.{ask_of}
 use Rattle.cr_wire.specs.Number.{key_of, number_for, request_of}
 use Rattle.cr_wire.specs.Paper.{member_of, paper_of, tag_of, user_of, version_of}
@@ -34,68 +41,63 @@ use Rattle.cr_wire.specs.declared.what.What.TheVariants.{Command as Commands, Qu
 abbrev pub find_at : List ℕ → Option FoundPath
 find_at path = if is_utf8 path then found_at path else None
 
--- a command by this key, where the body tells one
-abbrev pub command_of : Ask → Option RetryKey → Option Command → What
-command_of ask key None = BadBody ask
-command_of ask key (Some command) = Commands key command
+-- the command that turns the tag of a path on or off; `None` if the path tells no valid tag
+abbrev pub tagged : FoundPath → Bool → Option Command
+tagged found on = option_map (λ tag. commands.Tag (paper_of found) tag on) (tag_of found)
 
--- the command that path and body tell
-abbrev pub commanded : Ask → FoundPath → Option RetryKey → List ℕ → What
-commanded ask found key body = command_of ask key (command_read ask (paper_of found) body)
+-- the command that a path tells without a body; `None` if it tells none
+abbrev pub command_at : Task → FoundPath → Option Command
+command_at tasks.Withdraw found = Some (commands.Withdraw (paper_of found))
+command_at tasks.Dismiss found = Some (commands.Dismiss (member_of found))
+command_at tasks.Unassign found = Some (commands.Unassign (paper_of found) (user_of found))
+command_at tasks.Uninvite found = Some (commands.Uninvite (paper_of found) (user_of found))
+command_at tasks.Tag found = tagged found true
+command_at tasks.Untag found = tagged found false
+command_at task found = None
 
--- that a tag is on or off, which the path alone tells; a text there that is no tag counts as a bad body
-abbrev pub tagged : Ask → FoundPath → Option RetryKey → Bool → What
-tagged ask found key on =
-    command_of ask key (option_map (λ tag. commands.Tag (paper_of found) tag on) (tag_of found))
+-- the command that a request tells, by what carries the rest of it: the path only, a JSON value, or bytes, as an
+-- upload's content is
+abbrev pub command_carried : Carrier → Task → FoundPath → List ℕ → Option Command
+command_carried Json task found body = command_read task (paper_of found) body
+command_carried Content task found body = Some (commands.Upload (paper_of found) body)
+command_carried carrier task found body = command_at task found
+
+-- the command that a request for this task tells, by its path and its body
+abbrev pub command_told : Task → FoundPath → List ℕ → Option Command
+command_told task found body = command_carried (task_traits task).carrier task found body
+
+-- the wish of a command with this key; a bad body if the request tells none, also if a text is no valid tag
+abbrev pub command_of : Task → Option RetryKey → Option Command → What
+command_of task key None = BadBody (asks.Give task)
+command_of task key (Some command) = Commands key command
+
+-- the wish of a question, by its path and its query string
+abbrev pub questioned : Question → FoundPath → List ℕ → What
+questioned questions.Me found query = Queries queries.Me
+questioned questions.Accounts found query = Queries queries.Accounts
+questioned questions.Phase found query = Queries queries.Phase
+questioned questions.Deadlines found query = Queries queries.Deadlines
+questioned questions.AcceptedPapers found query = Queries queries.AcceptedPapers
+questioned questions.Page found query = Queries (queries.Page (paper_of found))
+questioned questions.Content found query = Queries (queries.Content (paper_of found))
+questioned questions.Version found query = Queries (queries.Version (paper_of found) (version_of found))
+questioned questions.Reviews found query = Queries (queries.Reviews (paper_of found))
+questioned questions.Comments found query = Queries (queries.Comments (paper_of found))
+questioned questions.Response found query = Queries (queries.Response (paper_of found))
+questioned questions.Search found query = search_in query
+questioned questions.Plan found query = plan_in query
 
 -- the wish of a bulk with this key; a bad body if the body spells no rows
 abbrev pub bulk_of : Option RetryKey → Option (List BulkRow) → What
 bulk_of key None = BadBody asks.Bulk
 bulk_of key (Some rows) = Bulk key rows
 
--- one line for each thing that can be asked for; an upload's body is the content
+-- the wish of a request for this, with its path, its key, its query string and its body
 abbrev pub asked : Ask → FoundPath → Option RetryKey → List ℕ → List ℕ → What
-asked asks.Register found key query body = commanded asks.Register found key body
-asked asks.Accounts found key query body = Queries queries.Accounts
-asked asks.Name found key query body = commanded asks.Name found key body
-asked asks.Dismiss found key query body = Commands key (commands.Dismiss (member_of found))
-asked asks.SetMode found key query body = commanded asks.SetMode found key body
-asked asks.Phase found key query body = Queries queries.Phase
-asked asks.SetPhase found key query body = commanded asks.SetPhase found key body
-asked asks.Deadlines found key query body = Queries queries.Deadlines
-asked asks.SetDeadline found key query body = commanded asks.SetDeadline found key body
-asked asks.Submit found key query body = commanded asks.Submit found key body
-asked asks.Page found key query body = Queries (queries.Page (paper_of found))
-asked asks.Revise found key query body = commanded asks.Revise found key body
-asked asks.Withdraw found key query body = Commands key (commands.Withdraw (paper_of found))
-asked asks.Content found key query body = Queries (queries.Content (paper_of found))
-asked asks.Upload found key query body = Commands key (commands.Upload (paper_of found) body)
-asked asks.Version found key query body = Queries (queries.Version (paper_of found) (version_of found))
-asked asks.SetConflict found key query body = commanded asks.SetConflict found key body
-asked asks.Bid found key query body = commanded asks.Bid found key body
-asked asks.Assign found key query body = commanded asks.Assign found key body
-asked asks.Unassign found key query body = Commands key (commands.Unassign (paper_of found) (user_of found))
-asked asks.Invite found key query body = commanded asks.Invite found key body
-asked asks.Uninvite found key query body = Commands key (commands.Uninvite (paper_of found) (user_of found))
-asked asks.Review found key query body = commanded asks.Review found key body
-asked asks.Reviews found key query body = Queries (queries.Reviews (paper_of found))
-asked asks.Respond found key query body = commanded asks.Respond found key body
-asked asks.Response found key query body = Queries (queries.Response (paper_of found))
-asked asks.Comment found key query body = commanded asks.Comment found key body
-asked asks.Comments found key query body = Queries (queries.Comments (paper_of found))
-asked asks.Tag found key query body = tagged asks.Tag found key true
-asked asks.Untag found key query body = tagged asks.Untag found key false
-asked asks.Decide found key query body = commanded asks.Decide found key body
-asked asks.AcceptedPapers found key query body = Queries queries.AcceptedPapers
-asked asks.Me found key query body = Queries queries.Me
-asked asks.Search found key query body = search_in query
+asked (asks.Give task) found key query body = command_of task key (command_told task found body)
+asked (asks.Tell question) found key query body = questioned question found query
+asked (asks.Report kind) found key query body = Queries (queries.Report (report_on kind (paper_of found)))
 asked asks.Bulk found key query body = bulk_of key (parse_rows body)
-asked asks.PapersReport found key query body = Queries (queries.Report reports.Papers)
-asked asks.ScoresReport found key query body = Queries (queries.Report reports.Scores)
-asked asks.LoadReport found key query body = Queries (queries.Report reports.Load)
-asked asks.DecisionsReport found key query body = Queries (queries.Report reports.Decisions)
-asked asks.Letter found key query body = Queries (queries.Report (reports.Letter (paper_of found)))
-asked asks.Plan found key query body = plan_in query
 
 -- the wish of a request for this that gives its command this number, or none
 abbrev pub asked_with : Ask → FoundPath → Option ℕ → RequestText → What
@@ -124,62 +126,10 @@ with_found (Some found) r = with_ask found (option_and_then (ask_at found.resour
 abbrev pub what_of : RequestText → What
 what_of r = with_found (find_at (path_of r.head.target)) r
 
--- whether what is asked for is told by a body: all commands are but tags and those by which something
--- is taken away, and so is a bulk
-abbrev pub ask_has_body : Ask → Bool
-ask_has_body asks.Register = true
-ask_has_body asks.Accounts = false
-ask_has_body asks.Name = true
-ask_has_body asks.Dismiss = false
-ask_has_body asks.SetMode = true
-ask_has_body asks.Phase = false
-ask_has_body asks.SetPhase = true
-ask_has_body asks.Deadlines = false
-ask_has_body asks.SetDeadline = true
-ask_has_body asks.Submit = true
-ask_has_body asks.Page = false
-ask_has_body asks.Revise = true
-ask_has_body asks.Withdraw = false
-ask_has_body asks.Content = false
-ask_has_body asks.Upload = true
-ask_has_body asks.Version = false
-ask_has_body asks.SetConflict = true
-ask_has_body asks.Bid = true
-ask_has_body asks.Assign = true
-ask_has_body asks.Unassign = false
-ask_has_body asks.Invite = true
-ask_has_body asks.Uninvite = false
-ask_has_body asks.Review = true
-ask_has_body asks.Reviews = false
-ask_has_body asks.Respond = true
-ask_has_body asks.Response = false
-ask_has_body asks.Comment = true
-ask_has_body asks.Comments = false
-ask_has_body asks.Tag = false
-ask_has_body asks.Untag = false
-ask_has_body asks.Decide = true
-ask_has_body asks.AcceptedPapers = false
-ask_has_body asks.Me = false
-ask_has_body asks.Search = false
-ask_has_body asks.Bulk = true
-ask_has_body asks.PapersReport = false
-ask_has_body asks.ScoresReport = false
-ask_has_body asks.LoadReport = false
-ask_has_body asks.DecisionsReport = false
-ask_has_body asks.Letter = false
-ask_has_body asks.Plan = false
-
--- whether it is told by the query string
-abbrev pub ask_has_query : Ask → Bool
-ask_has_query asks.Search = true
-ask_has_query asks.Plan = true
-ask_has_query ask = false
-
--- what stands behind the path was looked at, a body or a query string, which alone takes memory: this goes by what is
--- asked for, and where the number is a bad one neither is
+-- a wish in which the body or the query string was read, which is what takes memory; if the number is bad, neither is
 abbrev pub looks_behind_path : What → Bool
 looks_behind_path (BadNumber ask) = false
-looks_behind_path what = option_map_or (λ ask. ask_has_body ask || ask_has_query ask) (ask_of what) false
+looks_behind_path what = option_map_or (λ ask. looks_behind (traits_of ask).carrier) (ask_of what) false
 
 -- `looks_behind_path` holds of the wish
 abbrev pub LooksBehindPath : What → Type 0

@@ -7,7 +7,8 @@ use Rattle.cr_base.specs.declared.ask.Ask.{Ask}
 use Rattle.cr_base.specs.declared.ask.Ask.TheVariants as asks
 use Rattle.cr_base.specs.History.{History}
 use Rattle.cr_base.specs.HistoryFacts.{caller_of}
-use Rattle.cr_base.specs.Logins.{ask_reads_credentials, ask_wants_login, command_ask, query_ask}
+use Rattle.cr_base.specs.Logins.{command_ask, query_ask}
+use Rattle.cr_base.specs.Traits.{ask_wants_login}
 use Rattle.cr_bodies.specs.declared.credentials.Credentials.{Credentials}
 use Rattle.cr_wire.specs.declared.what.What.{What}
 use Rattle.cr_wire.specs.declared.what.What.TheVariants.{NoRoute, WrongMethod, BadNumber, BadBody, BadQuery}
@@ -25,21 +26,16 @@ ask_of (Commands key command) = Some (command_ask command)
 ask_of (Queries query) = Some (query_ask query)
 ask_of (Bulk key rows) = Some asks.Bulk
 
--- whether a login is wanted, also where the number, the body or the query string is a bad one, by what is asked for
--- alone; what is no request of the server's is refused alike to everybody
+-- the field Authorization is read: what is asked for requires authentication, also if the number, the body or the query
+-- string is bad. What is no request of the server's requires none, and every caller gets one refusal.
 abbrev pub wants_login : What → Bool
 wants_login what = option_map_or ask_wants_login (ask_of what) false
 
--- whether the field Authorization is read: not where it is no request of the server's
-abbrev pub reads_credentials : What → Bool
-reads_credentials what = option_map_or ask_reads_credentials (ask_of what) false
-
--- who has the name that is told, and registered with the digest of the secret that is told;
--- nobody where there is no such user
+-- the user who registered with the name that is told and the digest of the secret that is told; `None` if there is none
 abbrev pub user_told : Option Credentials → History → Option ℕ
 user_told None H = None
 user_told (Some c) H = caller_of c.name c.digest H
 
 -- the caller of a wish; unauthenticated if the field isn't read
 abbrev pub caller : History → Wish → Option ℕ
-caller H w = if reads_credentials w.what then user_told w.credentials H else None
+caller H w = if wants_login w.what then user_told w.credentials H else None

@@ -1,11 +1,11 @@
 -- SPDX-License-Identifier: Apache-2.0 OR MIT
 -- Number: the number that a client gives a command by the field Command-Number, and the key that it makes with the
 -- mark of the request (Keys).
-use Rattle.std.specs.Prelude.{ℕ, List, [], ◌∷◌, length, Bool, true, false, ◌&&◌, nat_le}
+use Rattle.std.specs.Prelude.{ℕ, List, [], ◌∷◌, length, Bool, ◌&&◌, nat_le}
 use Rattle.std.specs.Prelude.{Option, Some, None, Result, Ok, Err, option_map, if◌then◌else◌, codes}
 use Rattle.std.specs.Str.Parse.{digits_value}
+use Rattle.cr_base.specs.Traits.{ask_reads_number}
 use Rattle.cr_base.specs.declared.ask.Ask.{Ask}
-use Rattle.cr_base.specs.declared.ask.Ask.TheVariants as asks
 use Rattle.cr_base.specs.declared.retry.RetryKey.{RetryKey}
 use Rattle.cr_bodies.specs.Mark.{mark_of}
 use Rattle.cr_http.specs.Head.{values_of}
@@ -32,51 +32,7 @@ number_by [] = Ok None
 number_by (value ∷ []) = number_of value
 number_by (value ∷ other ∷ values) = Err (record {})
 
--- whether the field is read: by commands but a registration, and by bulks
-abbrev pub ask_reads_number : Ask → Bool
-ask_reads_number asks.Register = false
-ask_reads_number asks.Accounts = false
-ask_reads_number asks.Name = true
-ask_reads_number asks.Dismiss = true
-ask_reads_number asks.SetMode = true
-ask_reads_number asks.Phase = false
-ask_reads_number asks.SetPhase = true
-ask_reads_number asks.Deadlines = false
-ask_reads_number asks.SetDeadline = true
-ask_reads_number asks.Submit = true
-ask_reads_number asks.Page = false
-ask_reads_number asks.Revise = true
-ask_reads_number asks.Withdraw = true
-ask_reads_number asks.Content = false
-ask_reads_number asks.Upload = true
-ask_reads_number asks.Version = false
-ask_reads_number asks.SetConflict = true
-ask_reads_number asks.Bid = true
-ask_reads_number asks.Assign = true
-ask_reads_number asks.Unassign = true
-ask_reads_number asks.Invite = true
-ask_reads_number asks.Uninvite = true
-ask_reads_number asks.Review = true
-ask_reads_number asks.Reviews = false
-ask_reads_number asks.Respond = true
-ask_reads_number asks.Response = false
-ask_reads_number asks.Comment = true
-ask_reads_number asks.Comments = false
-ask_reads_number asks.Tag = true
-ask_reads_number asks.Untag = true
-ask_reads_number asks.Decide = true
-ask_reads_number asks.AcceptedPapers = false
-ask_reads_number asks.Me = false
-ask_reads_number asks.Search = false
-ask_reads_number asks.Bulk = true
-ask_reads_number asks.PapersReport = false
-ask_reads_number asks.ScoresReport = false
-ask_reads_number asks.LoadReport = false
-ask_reads_number asks.DecisionsReport = false
-ask_reads_number asks.Letter = false
-ask_reads_number asks.Plan = false
-
--- what the fields of a head tell a request that reads it
+-- the number that the fields of a head tell a request that reads it; none of a request that doesn't
 abbrev pub number_for : Ask → List (List ℕ × List ℕ) → Result (Option ℕ) BadCommandNumber
 number_for ask fields = if ask_reads_number ask then number_by (values_of (codes "command-number") fields) else Ok None
 

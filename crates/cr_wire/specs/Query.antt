@@ -10,8 +10,9 @@ use Rattle.std.specs.Str.Lossy.{utf8_lossy}
 use Rattle.std.specs.Str.Parse.{digits_value}
 use Rattle.form_urlencoded.specs.Form.{decode, raw_pairs}
 use Rattle.cr_base.specs.declared.ask.Ask.TheVariants as asks
+use Rattle.cr_base.specs.declared.ask.Question.TheVariants as questions
 use Rattle.cr_base.specs.declared.command.Query.TheVariants as queries
-use Rattle.cr_base.specs.declared.search.Step.{Step}
+use Rattle.cr_base.specs.declared.search.Node.{Node}
 use Rattle.cr_search_parse.specs.Reading.{text_read}
 use Rattle.cr_wire.specs.Paper.{is_number}
 use Rattle.cr_wire.specs.declared.what.What.{What}
@@ -49,19 +50,18 @@ is_count pair = is_named (codes "only") pair && stands_for (codes "count") pair.
 abbrev pub asks_count : List ℕ → Bool
 asks_count query = list_any is_count (raw_pairs query)
 
--- What the text of a search comes to: its steps, or the offset at which it is a bad one. None counts as bad from its
--- start. A wish is a value, so this has to be a function of the text. The grammar is none: it says of steps, or of
--- a place, whether they are a text's. So the function here is `text_read`, which computes them by the states of a
--- reader. That it gives what the grammar says of each text, and that the grammar says nothing else of it, is
--- `law_reading` of cr_search_parse.
-abbrev pub search_read : Option (List ℕ) → Result (List Step) ℕ
+-- What the text of a search comes to: its nodes, or the offset at which it is bad; a missing text is bad from 0.
+-- A wish is a value, so this has to be a function of the text, which the grammar isn't: it says of nodes, or of an
+-- offset, whether they are a text's. The function is `text_read`, which computes them by an automaton; `law_reading` of
+-- cr_search_parse says that it agrees with the grammar on every text.
+abbrev pub search_read : Option (List ℕ) → Result (List Node) ℕ
 search_read None = Err 0
 search_read (Some text) = text_read text
 
--- what is wished by such a search
-abbrev pub searched : Bool → Result (List Step) ℕ → What
-searched only_count (Err offset) = BadQuery asks.Search offset
-searched only_count (Ok steps) = Queries (queries.Search steps only_count)
+-- the wish of a search with these nodes, or a bad search at this offset
+abbrev pub searched : Bool → Result (List Node) ℕ → What
+searched only_count (Err offset) = BadQuery (asks.Tell questions.Search) offset
+searched only_count (Ok nodes) = Queries (queries.Search nodes only_count)
 
 -- the wish of a search with this query string
 abbrev pub search_in : List ℕ → What
@@ -84,8 +84,8 @@ number_in name most query = option_and_then (number_to most) (value_in name (raw
 
 -- the wish of a plan with these two numbers; a query string that is bad from its start if one isn't there
 abbrev pub planned : Option ℕ → Option ℕ → What
-planned None load = BadQuery asks.Plan 0
-planned (Some per_paper) None = BadQuery asks.Plan 0
+planned None load = BadQuery (asks.Tell questions.Plan) 0
+planned (Some per_paper) None = BadQuery (asks.Tell questions.Plan) 0
 planned (Some per_paper) (Some load) = Queries (queries.Plan per_paper load)
 
 -- the wish of a plan with this query string: how many more reviewers each paper is to have, 1 to 26, and how many

@@ -11,7 +11,7 @@ use Rattle.cr_http.specs.declared.head.Version.TheVariants as versions
 use Rattle.cr_bodies.specs.Credentials.{credentials_of}
 use Rattle.cr_bodies.specs.declared.credentials.Credentials.{Credentials}
 use Rattle.cr_wire.specs.Asked.{what_of}
-use Rattle.cr_wire.specs.Caller.{reads_credentials}
+use Rattle.cr_wire.specs.Caller.{wants_login}
 use Rattle.cr_wire.specs.Connection.{has_close}
 use Rattle.cr_wire.specs.declared.what.What.{What}
 use Rattle.cr_wire.specs.declared.what.Wish.{Wish}
@@ -28,7 +28,7 @@ credentials_in fields = option_and_then credentials_of (the_only (values_of (cod
 
 -- the credentials that the field tells a request that reads it; none of a request that doesn't
 abbrev pub credentials_for : What → List (List ℕ × List ℕ) → Option Credentials
-credentials_for what fields = if reads_credentials what then credentials_in fields else None
+credentials_for what fields = if wants_login what then credentials_in fields else None
 
 -- no further request follows on the connection, by the version: HTTP/1.0
 abbrev pub is_single : Version → Bool

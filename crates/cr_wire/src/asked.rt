@@ -1,8 +1,10 @@
 // SPDX-License-Identifier: Apache-2.0 OR MIT
 //! From a path, a method, a number, and a query string or a body to what is wished.
-ghost use Rattle.std.specs.Prelude.{◌≡◌, option_and_then, option_map, IfOk, IsTrue, OnErr};
+ghost use Rattle.std.specs.Prelude.{◌≡◌, option_and_then, option_map, IfOk, IfSome, IsTrue, OnErr, Some};
+ghost use Rattle.cr_base.specs.Bounds.{IsBoundedCommand};
+ghost use Rattle.cr_base.specs.Decoding.{Decodes};
 ghost use Rattle.cr_base.specs.Keys.{IsKeyOrNone};
-ghost use Rattle.cr_base.specs.Logins.{ask_wants_login};
+ghost use Rattle.cr_base.specs.Traits.{ask_wants_login, looks_behind, question_traits, task_traits};
 ghost use Rattle.cr_bulk.specs.Rows.{parse_rows};
 ghost use Rattle.cr_routes.specs.Asks.{ask_at as ask_of_resource};
 ghost use Rattle.cr_routes.specs.Methods.{method_of};
@@ -11,14 +13,15 @@ ghost use Rattle.cr_wire.specs.Asked as spec;
 ghost use Rattle.cr_wire.specs.Asked.{asked_by};
 ghost use Rattle.cr_wire.specs.Bounds.{IsBoundedWhat, IsKeyFor};
 ghost use Rattle.cr_wire.specs.Number.{own_key};
-ghost use Rattle.cr_wire.specs.Outcome.{Gives};
+ghost use Rattle.cr_wire.specs.Outcome.{Gives, RunsOutOnlyIf};
+ghost use Rattle.cr_wire.specs.Target.{query_of};
 
 use crate::number::number_for;
 use crate::numbered::Numbered;
 use crate::paper::{member_of, paper_of, tag_of, user_of, version_of};
 use crate::query::{plan_in, search_in};
 use crate::what::What;
-use cr_base::{Ask, Command, DecodeError, PaperNo, Query, Report};
+use cr_base::{Ask, Carrier, Command, DecodeError, PaperNo, Query, Question, Task};
 use cr_bodies::{before_first, read_command};
 use cr_bulk::read_rows;
 use cr_http::{Body, Head};
@@ -43,52 +46,126 @@ fn ask_at(resource: Resource, method: &[u8]) -> Option<Ask>
     resource.ask(Method::read(method)?)
 }
 
-/// Returns the command that path and body tell, of what is told by a JSON body.
-fn command(
+/// Returns that a tag is on or off, which only the path tells.
+fn tagged(found: Matched<'_>, on: bool) -> Option<Command>
+    ensures told { result ≡ spec.tagged (seen found.entry) on }
+    ensures bounded { IfSome result IsBoundedCommand }
+{
+    let tag = tag_of(found)?;
+    Some(Command::Tag {
+        paper: paper_of(found),
+        tag,
+        on,
+    })
+}
+
+/// Returns the command that only a path tells.
+fn command_at(task: Task, found: Matched<'_>) -> Option<Command>
+    ensures told { result ≡ spec.command_at task (seen found.entry) }
+    ensures bounded { IfSome result IsBoundedCommand }
+{
+    let paper = paper_of(found);
+    match task {
+        Task::Withdraw => Some(Command::Withdraw { paper }),
+        Task::Dismiss => {
+            let user = member_of(found);
+            Some(Command::Dismiss { user })
+        }
+        Task::Unassign => {
+            let user = user_of(found);
+            Some(Command::Unassign { paper, user })
+        }
+        Task::Uninvite => {
+            let user = user_of(found);
+            Some(Command::Uninvite { paper, user })
+        }
+        Task::Tag => tagged(found, true),
+        Task::Untag => tagged(found, false),
+        _ => None,
+    }
+}
+
+/// Returns an upload, whose content is the body as it is.
+fn upload(alloc: Global, paper: Option<PaperNo>, body: &Body<'_>) -> Result<Command, DecodeError>
+    ensures told { Decodes result (Some (Command.Upload paper body.now)) }
+    ensures bounded { IfOk result IsBoundedCommand }
+{
+    let content = body.to_blob(alloc)?;
+    Ok(Command::Upload { paper, content })
+}
+
+/// Returns the command that a request tells, by what carries the rest of it.
+fn command_told(
     alloc: Global,
-    ask: Ask,
+    task: Task,
+    found: Matched<'_>,
+    body: &Body<'_>,
+) -> Result<Command, DecodeError>
+    ensures told { Decodes result (spec.command_told task (seen found.entry) body.now) }
+    ensures bounded { IfOk result IsBoundedCommand }
+    ensures sure { RunsOutOnlyIf result (IsTrue (looks_behind (task_traits task).carrier)) }
+{
+    match task.traits().carrier {
+        Carrier::Json => read_command(alloc, task, paper_of(found), body.as_slice()),
+        Carrier::Content => upload(alloc, paper_of(found), body),
+        Carrier::Path | Carrier::Rows | Carrier::QueryString => match command_at(task, found) {
+            Some(command) => Ok(command),
+            None => Err(DecodeError::Malformed),
+        },
+    }
+}
+
+/// Returns what is wished by a request that something be changed by one command.
+fn commanded(
+    alloc: Global,
+    task: Task,
     found: Matched<'_>,
     request: &Numbered<'_>,
 ) -> Result<What, AllocError>
-    requires body { IsTrue (spec.ask_has_body ask) }
-    requires key { IsKeyFor (ask_wants_login ask) (own_key request.now) }
-    ensures told { Gives result
-        (spec.commanded ask (seen found.entry) (own_key request.now) (request.now).body.now) }
+    requires key { IsKeyFor (ask_wants_login (Ask.Give task)) (own_key request.now) }
+    ensures told { Gives result (spec.command_of task (own_key request.now)
+        (spec.command_told task (seen found.entry) (request.now).body.now)) }
     ensures bounded { IfOk result IsBoundedWhat }
-    ensures sure { OnErr result (spec.LooksBehindPath
-        (spec.commanded ask (seen found.entry) (own_key request.now) (request.now).body.now)) }
+    ensures sure { OnErr result (spec.LooksBehindPath (spec.command_of task (own_key request.now)
+        (spec.command_told task (seen found.entry) (request.now).body.now))) }
 {
-    match read_command(alloc, ask, paper_of(found), request.body.as_slice()) {
+    match command_told(alloc, task, found, request.body) {
         Ok(command) => Ok(request.giving(command)),
-        Err(DecodeError::Malformed) => Ok(What::BadBody(ask)),
+        Err(DecodeError::Malformed) => Ok(What::BadBody(Ask::Give(task))),
         Err(DecodeError::OutOfMemory) => Err(AllocError),
     }
 }
 
-/// Returns an upload, whose content is the unchanged body.
-fn upload(alloc: Global, paper: Option<PaperNo>, request: &Numbered<'_>) -> Result<What, AllocError>
-    requires key { IsKeyOrNone (own_key request.now) }
-    ensures told { Gives result
-        (What.Command (own_key request.now) (Command.Upload paper (request.now).body.now)) }
+/// Returns what is wished by a request to be told something: its path tells it, and of a search and a plan the query
+/// string.
+fn questioned(
+    alloc: Global,
+    question: Question,
+    found: Matched<'_>,
+    target: &[u8],
+) -> Result<What, AllocError>
+    ensures told { Gives result (spec.questioned question (seen found.entry) (query_of target.now)) }
     ensures bounded { IfOk result IsBoundedWhat }
+    ensures sure { OnErr result (IsTrue (looks_behind (question_traits question).carrier)) }
 {
-    let content = request.body.to_blob(alloc)?;
-    Ok(request.giving(Command::Upload { paper, content }))
-}
-
-/// Returns a tag's command, on or off, which the path determines.
-fn tagged(ask: Ask, found: Matched<'_>, request: &Numbered<'_>, on: bool) -> What
-    requires key { IsKeyOrNone (own_key request.now) }
-    ensures told { result ≡ spec.tagged ask (seen found.entry) (own_key request.now) on }
-    ensures bounded { IsBoundedWhat result }
-{
-    match tag_of(found) {
-        Some(tag) => request.giving(Command::Tag {
-            paper: paper_of(found),
-            tag,
-            on,
-        }),
-        None => What::BadBody(ask),
+    let paper = paper_of(found);
+    match question {
+        Question::Me => Ok(What::Query(Query::Me)),
+        Question::Accounts => Ok(What::Query(Query::Accounts)),
+        Question::Phase => Ok(What::Query(Query::Phase)),
+        Question::Deadlines => Ok(What::Query(Query::Deadlines)),
+        Question::AcceptedPapers => Ok(What::Query(Query::AcceptedPapers)),
+        Question::Page => Ok(What::Query(Query::Page { paper })),
+        Question::Content => Ok(What::Query(Query::Content { paper })),
+        Question::Version => Ok(What::Query(Query::Version {
+            paper,
+            version: version_of(found),
+        })),
+        Question::Reviews => Ok(What::Query(Query::Reviews { paper })),
+        Question::Comments => Ok(What::Query(Query::Comments { paper })),
+        Question::Response => Ok(What::Query(Query::Response { paper })),
+        Question::Search => search_in(alloc, target),
+        Question::Plan => plan_in(alloc, target),
     }
 }
 
@@ -111,15 +188,7 @@ fn bulk(alloc: Global, request: &Numbered<'_>) -> Result<What, AllocError>
     }
 }
 
-/// Returns the request for a report.
-fn reported(report: Report) -> What
-    ensures told { result ≡ What.Query (Query.Report report) }
-    ensures bounded { IsBoundedWhat result }
-{
-    What::Query(Query::Report { report })
-}
-
-/// Returns what is asked for, by its path, and by its query string or its body too.
+/// Returns what is asked for, by its path, and by its query string or its body.
 fn asked(
     alloc: Global,
     ask: Ask,
@@ -131,56 +200,13 @@ fn asked(
     ensures bounded { IfOk result IsBoundedWhat }
     ensures sure { OnErr result (spec.LooksBehindPath (asked_by ask (seen found.entry) request.now)) }
 {
-    let paper = paper_of(found);
     match ask {
-        Ask::Accounts => Ok(What::Query(Query::Accounts)),
-        Ask::Phase => Ok(What::Query(Query::Phase)),
-        Ask::Deadlines => Ok(What::Query(Query::Deadlines)),
-        Ask::AcceptedPapers => Ok(What::Query(Query::AcceptedPapers)),
-        Ask::Page => Ok(What::Query(Query::Page { paper })),
-        Ask::Content => Ok(What::Query(Query::Content { paper })),
-        Ask::Version => Ok(What::Query(Query::Version {
-            paper,
-            version: version_of(found),
+        Ask::Give(task) => commanded(alloc, task, found, request),
+        Ask::Tell(question) => questioned(alloc, question, found, request.head.target()),
+        Ask::Report(kind) => Ok(What::Query(Query::Report {
+            report: kind.on(paper_of(found)),
         })),
-        Ask::Me => Ok(What::Query(Query::Me)),
-        Ask::Search => search_in(alloc, request.head.target()),
-        Ask::Withdraw => Ok(request.giving(Command::Withdraw { paper })),
-        Ask::Unassign => {
-            let user = user_of(found);
-            Ok(request.giving(Command::Unassign { paper, user }))
-        }
-        Ask::Uninvite => {
-            let user = user_of(found);
-            Ok(request.giving(Command::Uninvite { paper, user }))
-        }
-        Ask::Dismiss => {
-            let user = member_of(found);
-            Ok(request.giving(Command::Dismiss { user }))
-        }
-        Ask::Reviews => Ok(What::Query(Query::Reviews { paper })),
-        Ask::Response => Ok(What::Query(Query::Response { paper })),
-        Ask::Comments => Ok(What::Query(Query::Comments { paper })),
-        Ask::Tag => Ok(tagged(ask, found, request, true)),
-        Ask::Untag => Ok(tagged(ask, found, request, false)),
-        Ask::Upload => upload(alloc, paper, request),
         Ask::Bulk => bulk(alloc, request),
-        Ask::PapersReport => Ok(reported(Report::Papers)),
-        Ask::ScoresReport => Ok(reported(Report::Scores)),
-        Ask::LoadReport => Ok(reported(Report::Load)),
-        Ask::DecisionsReport => Ok(reported(Report::Decisions)),
-        Ask::Letter => Ok(reported(Report::Letter { paper })),
-        Ask::Plan => plan_in(alloc, request.head.target()),
-        Ask::Register | Ask::Name | Ask::SetMode | Ask::SetPhase => {
-            command(alloc, ask, found, request)
-        }
-        Ask::SetDeadline | Ask::Submit | Ask::Revise | Ask::SetConflict | Ask::Bid => {
-            command(alloc, ask, found, request)
-        }
-        Ask::Assign | Ask::Invite | Ask::Review | Ask::Respond => {
-            command(alloc, ask, found, request)
-        }
-        Ask::Comment | Ask::Decide => command(alloc, ask, found, request),
     }
 }
 

@@ -7,7 +7,7 @@
 //!   `wish_of` (`told`, `bounded`). Memory runs out only if a body, or the query of a search or a plan, is looked at:
 //!   `wish_of` (`sure`).
 //! - The resource and method decide whether authentication is required, and whether credentials and `Command-Number`
-//!   are read: `What::wants_login`, `What::reads_credentials`. No body or query changes that: `law_one_ask`.
+//!   are read: `What::wants_login`. No body or query changes that: `law_one_ask`.
 //! - A text spells one list of wishes, except their timestamps: `law_one_list_of_wishes`.
 #![tactic(auto)]
 

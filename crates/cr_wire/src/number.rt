@@ -28,26 +28,6 @@ fn number_of(value: &[u8]) -> Result<Option<CommandNumber>, BadCommandNumber>
     Ok(CommandNumber::new(decimal_value(value)))
 }
 
-/// Returns whether a request for this reads the field Command-Number: a command but a registration, and a bulk.
-fn reads_number(ask: Ask) -> bool
-    ensures { result ≡ spec.ask_reads_number ask }
-{
-    match ask {
-        Ask::Name | Ask::SetMode | Ask::SetPhase | Ask::SetDeadline => true,
-        Ask::Submit | Ask::Revise | Ask::Upload | Ask::Withdraw => true,
-        Ask::SetConflict | Ask::Bid | Ask::Assign | Ask::Unassign => true,
-        Ask::Dismiss | Ask::Invite | Ask::Uninvite => true,
-        Ask::Review | Ask::Respond | Ask::Comment => true,
-        Ask::Tag | Ask::Untag | Ask::Decide | Ask::Bulk => true,
-        Ask::Register | Ask::Accounts | Ask::Phase | Ask::Deadlines => false,
-        Ask::Page | Ask::Content | Ask::Version => false,
-        Ask::Reviews | Ask::Response => false,
-        Ask::Comments | Ask::AcceptedPapers | Ask::Me | Ask::Search => false,
-        Ask::PapersReport | Ask::ScoresReport | Ask::LoadReport => false,
-        Ask::DecisionsReport | Ask::Letter | Ask::Plan => false,
-    }
-}
-
 /// Returns the number that a request for this gives its command; `None` if there is no field Command-Number, or where
 /// the request doesn't read it. An error where it reads it and there is more than one, or one that isn't 1 to 18
 /// digits, the first not 0, the spaces and tabs around them aside.
@@ -61,7 +41,7 @@ pub(crate) fn number_for(
 ) -> Result<Option<CommandNumber>, BadCommandNumber>
     ensures { result ≡ spec.number_for ask head.now.fields }
 {
-    if !reads_number(ask) {
+    if !ask.reads_number() {
         return Ok(None);
     }
     match head.values_of(b"command-number") {

@@ -11,7 +11,7 @@ ghost use Rattle.cr_wire.specs.Target.{query_of};
 
 use crate::paper::is_number;
 use crate::what::What;
-use cr_base::{Ask, MOST_LABELS, MOST_LOAD, PerPaper, PlanLoad, Query, decimal_value};
+use cr_base::{Ask, MOST_LABELS, MOST_LOAD, PerPaper, PlanLoad, Query, Question, decimal_value};
 use cr_bodies::after_first;
 use cr_search_parse::{ParseError, parse};
 use form_urlencoded::{decode, raw_pairs};
@@ -80,7 +80,7 @@ fn searched(alloc: Global, only_count: bool, text: &[u8]) -> Result<What, AllocE
     match parse(alloc, text) {
         Ok(search) => Ok(What::Query(Query::Search { search, only_count })),
         Err(ParseError::BadQuery { offset }) => Ok(What::BadQuery {
-            ask: Ask::Search,
+            ask: Ask::Tell(Question::Search),
             offset,
         }),
         Err(ParseError::OutOfMemory) => Err(AllocError),
@@ -98,7 +98,7 @@ pub(crate) fn search_in(alloc: Global, target: &[u8]) -> Result<What, AllocError
     match value_in(alloc, b"q", query)? {
         Some(text) => searched(alloc, only_count, text.as_bytes()),
         None => Ok(What::BadQuery {
-            ask: Ask::Search,
+            ask: Ask::Tell(Question::Search),
             offset: 0,
         }),
     }
@@ -150,7 +150,7 @@ fn planned(per_paper: Option<u64>, load: Option<u64>) -> What
             load: PlanLoad::new(load),
         }),
         _ => What::BadQuery {
-            ask: Ask::Plan,
+            ask: Ask::Tell(Question::Plan),
             offset: 0,
         },
     }

@@ -61,7 +61,7 @@ pub struct Wish {
 }
 
 impl What {
-    ghost use Rattle.cr_wire.specs.Caller.{ask_of, reads_credentials, wants_login};
+    ghost use Rattle.cr_wire.specs.Caller.{ask_of, wants_login};
 
     /// Returns what its request asks for: `None` if it is no request of the server's.
     fn ask(&self) -> Option<Ask>
@@ -84,18 +84,11 @@ impl What {
     /// and the accepted papers require none, and what is no request of these is refused alike to everybody. That the
     /// page and content of a published paper are public isn't looked at here, since the request doesn't tell which
     /// papers are published.
+    ///
+    /// Only a request that requires it reads the field Authorization; the caller of any other is unauthenticated.
     pub fn wants_login(&self) -> bool
         ensures { result ≡ wants_login self.now }
     {
         self.ask().is_some_and(Ask::wants_login)
-    }
-
-    /// Returns whether its request reads the field Authorization. POST of `/register`, GET and HEAD of `/accounts`, of
-    /// `/phase`, of `/deadlines` and of `/accepted` don't: their caller is unauthenticated. Nor does what is no
-    /// request of the server's, which is refused alike to everybody.
-    pub fn reads_credentials(&self) -> bool
-        ensures { result ≡ reads_credentials self.now }
-    {
-        self.ask().is_some_and(Ask::reads_credentials)
     }
 }

@@ -33,7 +33,7 @@ fn credentials_in(head: &Head<'_>) -> Option<Credentials>
 fn credentials_for(what: &What, head: &Head<'_>) -> Option<Credentials>
     ensures { result ≡ credentials_for_text what.now head.now.fields }
 {
-    if what.reads_credentials() {
+    if what.wants_login() {
         credentials_in(head)
     } else {
         None
@@ -70,7 +70,7 @@ fn asks_close(head: &Head<'_>) -> bool
 /// # Cost
 ///
 /// Reads the target's path, the fields' names and the field Connection once; the body and the query string only if
-/// method and path use them; Authorization only if `reads_credentials` says so; Command-Number only of bulks and of
+/// method and path use them; Authorization only if authentication is required; Command-Number only of bulks and of
 /// commands except registrations. The digest of method, path and body is computed only if there is a number and the
 /// body is a good one.
 pub fn wish_of(

@@ -1,8 +1,9 @@
 -- SPDX-License-Identifier: Apache-2.0 OR MIT
 -- The words of `pipe` with a store and of `view`, by clap's own definitions.
-use Rattle.std.proofs.Common.{◌≡◌, [], ◌∷◌, ◌++◌, Bool, Some, None, true, false, not, cond, ◌&&◌, ◌==◌, ap, refl}
+use Rattle.std.proofs.Common.{◌≡◌, [], ◌∷◌, ◌++◌, Some, None, true, false, cond, ◌&&◌, ◌==◌, ap, refl}
 use Rattle.std.specs.Prelude.{codes}
 use Rattle.std.specs.Str.{bytes_eq}
+use Rattle.std.proofs.lemmas.Bool.{not-true}
 use Rattle.clap.specs.Lexer.{strip_byte}
 use Rattle.clap.specs.Words.{Text}
 use Rattle.clap.proofs.OnLiterals.{clap_on_literals}
@@ -12,17 +13,13 @@ use Rattle.cr_words.specs.Job.{AreTakenFor, pipe_job, view_job}
 
 -- ---- what clap tests of a word that may be an option
 
-no_hyphen : (b : Bool) → not b ≡ true → b ≡ false
-no_hyphen true e = cc
-no_hyphen false e = refl
-
 pub not_dashes : (word : Text) → is_plain_text word ≡ true → bytes_eq word (45 ∷ 45 ∷ []) ≡ false
 not_dashes [] plain = refl
-not_dashes (b ∷ rest) plain = ap (λ t. t && bytes_eq rest (45 ∷ [])) (no_hyphen (b == 45) plain)
+not_dashes (b ∷ rest) plain = ap (λ t. t && bytes_eq rest (45 ∷ [])) (not-true (b == 45) plain)
 
 pub not_stripped : (word : Text) → is_plain_text word ≡ true → strip_byte 45 word ≡ None
 not_stripped [] plain = refl
-not_stripped (b ∷ rest) plain = ap (λ t. cond t (Some rest) None) (no_hyphen (b == 45) plain)
+not_stripped (b ∷ rest) plain = ap (λ t. cond t (Some rest) None) (not-true (b == 45) plain)
 
 -- ---- options as two words
 

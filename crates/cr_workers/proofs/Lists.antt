@@ -32,7 +32,3 @@ total-cut f n xs ys zs front back =
     let b = ap (total f) back in
     let w = ap (total f) (cut n xs) ∙ total_append f (take n xs) (drop n xs) in
     omega (arith, a, b, w)
-
-pub no-door : {A : Type 0} (xs : List A) → length xs ≡ 0 → xs ≡ []
-no-door [] e = refl
-no-door (x ∷ xs) e = absurd (omega (arith, e))

@@ -3,6 +3,7 @@
 use Rattle.std.proofs.Common.{◌≡◌, ◌∙◌, ℕ, ◌+◌, ◌*◌, ◌^◌, ◌≤◌, inl, inr, List, [], ◌∷◌, ◌++◌, length, Bool, true, false}
 use Rattle.std.proofs.Common.{◌||◌, Option, Some, None, Ok, Err, refl, sym, ap, subst, arith, append_assoc}
 use Rattle.std.proofs.Common.{length-append}
+use Rattle.std.proofs.lemmas.List.{map-append}
 use Rattle.cr_ports.specs.Doors.{DoorLog, and_answer, and_back}
 use Rattle.cr_ports.specs.declared.door.NextConnection.TheVariants as next
 use Rattle.cr_ports.specs.declared.door.Served.{Served}
@@ -16,7 +17,6 @@ use Rattle.cr_workers.specs.declared.worker.Last.{Last}
 use Rattle.cr_workers.specs.declared.worker.Last.TheVariants as lasts
 use Rattle.cr_workers.proofs.Grown.{append-nil, every-append}
 use Rattle.cr_workers.proofs.Connections.{serve-none, serve-one, serve-then}
-use Rattle.cr_workers.proofs.Halves.{map-append}
 
 stays-within : {K : Type 0} (m n : ℕ) (p q : KnownPass K) → m ≤ n → StaysPass m p q → StaysPass n p q
 stays-within m n p q le x = record { lock = x.lock; share = x.share; few = (let a = x.few in omega (arith, a, le)) }

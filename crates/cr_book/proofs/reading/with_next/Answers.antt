@@ -1,5 +1,5 @@
 -- SPDX-License-Identifier: Apache-2.0 OR MIT
-use Rattle.std.proofs.Common.{◌++◌, ◌∷◌, ◌∙◌, [], Some, ap, sym, subst}
+use Rattle.std.proofs.Common.{◌∙◌, [], Some, sym, subst}
 use Rattle.std.proofs.lemmas.Result.{IfOk-weaker}
 use Rattle.cr_base.specs.History.{History}
 use Rattle.cr_book.specs.Reading.{IsReading, IsWholeGroup}

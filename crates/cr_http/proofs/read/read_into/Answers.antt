@@ -1,8 +1,9 @@
 -- SPDX-License-Identifier: Apache-2.0 OR MIT
 use Rattle.std.proofs.Common.{refl, length}
+use Rattle.std.proofs.lemmas.Bool.{lt-ltb}
 use Rattle.cr_http.specs.Buffer.{text_of}
 use Rattle.cr_http.proofs.Answering.{ends_lie, reads_all, reads_into_on}
-use Rattle.cr_http.proofs.Judging.{full_stands, head_needed, is_full, no_head_to, short_is, short_stands}
+use Rattle.cr_http.proofs.Judging.{full_stands, head_needed, is_full, no_head_to, short_stands}
 use Rattle.cr_http.proofs.read.read_into.Goals as goal
 
 pub returns-in-Found-clause-reads : goal.returns-in-Found-clause-reads
@@ -25,7 +26,7 @@ returns-in-Failed-clause-reads g c =
       c.requires.none.0,
       refl,
       short_stands (text_of c.fill_head.new.buffer) c.in-Failed.ensures.finds.0
-          (short_is (length (text_of c.fill_head.new.buffer)) 16384 c.in-Failed.ensures.finds.1),
+          (lt-ltb (length (text_of c.fill_head.new.buffer)) 16384 c.in-Failed.ensures.finds.1),
     )
 
 pub returns-in-OutOfMemory-clause-reads : goal.returns-in-OutOfMemory-clause-reads
@@ -35,7 +36,7 @@ returns-in-OutOfMemory-clause-reads g c =
       c.requires.none.0,
       refl,
       short_stands (text_of c.fill_head.new.buffer) c.in-OutOfMemory.ensures.finds.0
-          (short_is (length (text_of c.fill_head.new.buffer)) 16384 c.in-OutOfMemory.ensures.finds.1),
+          (lt-ltb (length (text_of c.fill_head.new.buffer)) 16384 c.in-OutOfMemory.ensures.finds.1),
       no_head_to (text_of c.fill_head.new.buffer) c.in-OutOfMemory.ensures.finds.0,
     )
 

@@ -1,6 +1,7 @@
 -- SPDX-License-Identifier: Apache-2.0 OR MIT
 use Rattle.std.proofs.Common.{refl}
 use Rattle.cr_routes.specs.Parts.{found_at}
+use Rattle.cr_routes.proofs.AskedAt.{has_route}
 use Rattle.cr_routes.proofs.Resources.{unrooted}
 use Rattle.cr_routes.proofs.laws.law_paths.Goals as goal
 
@@ -17,3 +18,6 @@ returns-clause-rooted c = unrooted
 pub returns-clause-empty : goal.returns-clause-empty
 unfolding found_at
 returns-clause-empty c = refl
+
+pub returns-clause-asked : goal.returns-clause-asked
+returns-clause-asked c = has_route

@@ -18,18 +18,18 @@ unfolding most_bytes
 returns-then-text-gt-MOST_BYTES-clause-bad c offset is = let same : 1024 ≡ offset =
     cc in inl (c.if-text-gt-MOST_BYTES.true, sym same)
 
-pub from_steps-requires : goal.from_steps-requires
-from_steps-requires c = gives-spelled (runs_of c.args.text.now) c.in-Ok.steps.items c.in-Ok.ensures
+pub from_nodes-requires : goal.from_nodes-requires
+from_nodes-requires c = gives-spelled (runs_of c.args.text.now) c.in-Ok.nodes.items c.in-Ok.ensures
 
 pub returns-in-Ok-clause-found : goal.returns-in-Ok-clause-found
 unfolding most_bytes
 returns-in-Ok-clause-found c =
     let few : length c.args.text.now ≤ 1024 = omega (arith, c.if-text-gt-MOST_BYTES.false) in
-    rw c.from_steps.ensures (gives-spells c.args.text.now c.in-Ok.steps.items few c.in-Ok.ensures)
+    rw c.from_nodes.ensures (gives-spells c.args.text.now c.in-Ok.nodes.items few c.in-Ok.ensures)
 
 pub returns-in-Ok-clause-only : goal.returns-in-Ok-clause-only
 returns-in-Ok-clause-only c tree spelled =
-    c.from_steps.ensures ∙ gives-only (runs_of c.args.text.now) c.in-Ok.steps.items tree c.in-Ok.ensures spelled.1
+    c.from_nodes.ensures ∙ gives-only (runs_of c.args.text.now) c.in-Ok.nodes.items tree c.in-Ok.ensures spelled.1
 
 pub returns-in-Err-clause-only : goal.returns-in-Err-clause-only
 returns-in-Err-clause-only c tree spelled = not-found c.args.text.now c.in-Err.error tree c.in-Err.ensures spelled.1
@@ -50,7 +50,7 @@ pub returns-in-Ok-clause-exact : goal.returns-in-Ok-clause-exact
 unfolding most_bytes
 returns-in-Ok-clause-exact c =
     let few : length c.args.text.now ≤ 1024 = omega (arith, c.if-text-gt-MOST_BYTES.false) in
-    rw c.from_steps.ensures (gives-exact c.args.text.now c.in-Ok.steps.items few c.in-Ok.ensures)
+    rw c.from_nodes.ensures (gives-exact c.args.text.now c.in-Ok.nodes.items few c.in-Ok.ensures)
 
 pub returns-in-Err-clause-exact : goal.returns-in-Err-clause-exact
 unfolding most_bytes

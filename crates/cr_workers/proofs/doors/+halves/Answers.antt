@@ -4,6 +4,7 @@ use denote.Param
 use denote.Param.Send.{IsSend, IsSync, sendable}
 use Rattle.std.proofs.Common.{◌∙◌, map, ap, subst}
 use Rattle.std.proofs.Crossing.{crosses}
+use Rattle.std.proofs.lemmas.List.{map-append}
 use Rattle.cr_lock.proofs.lock.HistoryLock.TheSendSync as locks
 use Rattle.cr_lock.proofs.pass.Pass.TheSendSync as passes
 use Rattle.cr_log.proofs.log.Log.TheSendSync as logs
@@ -12,7 +13,7 @@ use Rattle.cr_session.specs.Passing.{KnownPass}
 use Rattle.cr_session.specs.Tries.{tries_of}
 use Rattle.cr_workers.specs.Connections.{streams_of}
 use Rattle.cr_workers.specs.Doors.{door_of, ServesDoors}
-use Rattle.cr_workers.proofs.Halves.{map-append, doors-unasked, doors-both}
+use Rattle.cr_workers.proofs.Halves.{doors-unasked, doors-both}
 use Rattle.cr_view.proofs.live.Live.TheSendSync as lives
 use Rattle.cr_workers.proofs.doors.+halves.Goals as goal
 

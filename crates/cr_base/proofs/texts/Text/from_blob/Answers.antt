@@ -2,6 +2,5 @@
 use Rattle.std.proofs.lemmas.Str.{IsUtf8-from_is_utf8}
 use Rattle.cr_base.proofs.texts.Text.from_blob.Goals as goal
 
-pub from_known_utf8-requires : goal.from_known_utf8-requires
-from_known_utf8-requires c =
-    rw (c.in_ok-shared.ensures.cases, c.bytes.view_is) (IsUtf8-from_is_utf8 c.args.bytes.now c.requires)
+pub invariant_of-result : goal.invariant_of-result
+invariant_of-result c = rw c.in_ok-bytes.ensures (IsUtf8-from_is_utf8 c.args.bytes.now c.requires)

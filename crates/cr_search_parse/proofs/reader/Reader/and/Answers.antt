@@ -9,7 +9,7 @@ returns-clause-takes c s stands = (
   record s { next = wanted },
   ap (after_and s) (stands.next ∙ ap next_told c.in-Ended.is),
   record {
-    steps = stands.steps;
+    nodes = stands.nodes;
     around = stands.around;
     level = stands.level;
     next = refl;

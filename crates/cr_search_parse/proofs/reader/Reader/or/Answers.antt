@@ -1,6 +1,6 @@
 -- SPDX-License-Identifier: Apache-2.0 OR MIT
 use Rattle.std.proofs.Common.{ℕ, [], ◌∙◌, ap, refl}
-use Rattle.cr_search_parse.specs.Reading.{State, wanted, after_or, level_steps}
+use Rattle.cr_search_parse.specs.Reading.{State, wanted, after_or, level_nodes}
 use Rattle.cr_search_parse.specs.Standing.{Stands, next_told}
 use Rattle.cr_search_parse.specs.declared.reader.Level.{Level as Counts}
 use Rattle.cr_search_parse.specs.declared.reader.Next.TheVariants as told
@@ -15,12 +15,12 @@ returns-clause-takes c s stands =
     record { alternatives = n; items = 0; negations = 0 } in counts in
     let q : Reader =
     record r {
-      steps = c.end_level.new.steps;
+      nodes = c.end_level.new.nodes;
       level = only_alternatives c.in_ok-alternatives.alternatives;
       next = told.Wanted;
     } in
     let after : State =
-    record s { level = record { alternatives = level_steps s.level; items = []; negations = 0 }; next = wanted } in
-    let so : Stands q after = or_stands r q s stands c.in_ok-alternatives.ensures.steps refl
+    record s { level = record { alternatives = level_nodes s.level; items = []; negations = 0 }; next = wanted } in
+    let so : Stands q after = or_stands r q s stands c.in_ok-alternatives.ensures.nodes refl
     (ap only_alternatives c.in_ok-alternatives.ensures.count) refl refl refl in
     (after, ap (after_or s) (stands.next ∙ ap next_told c.in-Ended.is), so)

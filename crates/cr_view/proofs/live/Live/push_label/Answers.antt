@@ -3,9 +3,9 @@ use Rattle.std.proofs.Common.{◌≡◌, List, ◌++◌, ◌∙◌, Option, ℕ,
 use Rattle.std.specs.Prelude.{OnOk}
 use Rattle.std.specs.Option.{option_copied}
 use Rattle.cr_base.specs.declared.review.ReviewLine.{ReviewLine}
-use Rattle.cr_base.specs.declared.words.Phase.TheVariants.{Discussion}
 use Rattle.cr_base.specs.Filed.{filed_of}
 use Rattle.cr_base.specs.Reviews.{last_form_before}
+use Rattle.cr_base.specs.Phases.{committee_reads_from}
 use Rattle.cr_view.specs.declared.reviews.Heading.{Heading}
 use Rattle.cr_view.specs.Reviews.{review_line, forms_shown}
 use Rattle.cr_view.specs.Seen.{SeenTables}
@@ -23,7 +23,7 @@ returns c =
     let forms =
     c.forms-forms.ensures.forms ∙ ap (λ (v : SeenTables). filed_of p v.tables.reviews.forms) c.self.view_is in
     let last = c.last_before-before.ensures.value
-    ∙ ap (λ (v : SeenTables). last_form_before v.tables.reviews p o Discussion) c.self.view_is in
+    ∙ ap (λ (v : SeenTables). last_form_before v.tables.reviews p o committee_reads_from) c.self.view_is in
     subst (λ (l : List ReviewLine). OnOk c.push_forms.result (c.push_forms.new.lines.items ≡ l))
     (label-discussed t by p o (heading c.label_name.result) _ c.forms-forms.result.now told
     c.push_form-2.new.lines.items
