@@ -222,9 +222,9 @@ taken-left p paper ordinal (t ∷ ts) same = by (eqb p t.pair.paper) refl (taken
 -- ---- whose seats they are
 
 -- of these seats those of the user are the ones of this ordinal
-abbrev AreHers : ℕ → ℕ → List (Tie Seat) → Type 0
-AreHers user ordinal [] = Unit {0}
-AreHers user ordinal (t ∷ ts) = (eqb ordinal t.value.ordinal ≡ eqb user t.pair.user) × AreHers user ordinal ts
+abbrev AreOrdinalOf : ℕ → ℕ → List (Tie Seat) → Type 0
+AreOrdinalOf user ordinal [] = Unit {0}
+AreOrdinalOf user ordinal (t ∷ ts) = (eqb ordinal t.value.ordinal ≡ eqb user t.pair.user) × AreOrdinalOf user ordinal ts
 
 abbrev ordinals : List (Tie Seat) → List ℕ
 ordinals ts = map (λ (t : Tie Seat). t.value.ordinal) ts
@@ -235,7 +235,7 @@ found u ts = option_map (λ (t : Tie Seat). t.value.ordinal) (find (λ (t : Tie 
 
 -- seats behind hers are neither hers nor of her ordinal
 hers-behind : (user ordinal : ℕ) (ts : List (Tie Seat)) → list_all (nat_lt ordinal) (ordinals ts) ≡ true
-    → list_any (λ (s : Tie Seat). eqb s.pair.user user) ts ≡ false → AreHers user ordinal ts
+    → list_any (λ (s : Tie Seat). eqb s.pair.user user) ts ≡ false → AreOrdinalOf user ordinal ts
 hers-behind user ordinal [] above none = tt
 hers-behind user ordinal (t ∷ ts) above none =
     let parts = and_parts (nat_lt ordinal t.value.ordinal) (list_all (nat_lt ordinal) (ordinals ts)) above in
@@ -261,12 +261,12 @@ found-above n user ordinal (t ∷ ts) above is =
     by false is rest first = rest is
 
 -- the seats of a user are the ones of the ordinal that is found
-are_hers : (user ordinal : ℕ) (ts : List (Tie Seat)) → IsRising (ordinals ts) → AreOfDifferentUsers ts
+are_ordinal_of : (user ordinal : ℕ) (ts : List (Tie Seat)) → IsRising (ordinals ts) → AreOfDifferentUsers ts
     → found (Some user) ts ≡ Some ordinal
-    → AreHers user ordinal ts
-are_hers user ordinal [] rising different is = cc
-are_hers user ordinal (t ∷ ts) rising different is =
-    by (eqb user t.pair.user) refl is (are_hers user ordinal ts rising.1 different.1)
+    → AreOrdinalOf user ordinal ts
+are_ordinal_of user ordinal [] rising different is = cc
+are_ordinal_of user ordinal (t ∷ ts) rising different is =
+    by (eqb user t.pair.user) refl is (are_ordinal_of user ordinal ts rising.1 different.1)
   where
     other : (n m : ℕ) → nat_lt m n ≡ true → eqb n m ≡ false
     other n m h = grind (arith, nat_tests, h)
@@ -274,8 +274,8 @@ are_hers user ordinal (t ∷ ts) rising different is =
     by : (b : Bool) → eqb user t.pair.user ≡ b
         → option_map (λ (t : Tie Seat). t.value.ordinal)
         (cond b (Some t) (find (λ (t : Tie Seat). eqb user t.pair.user) ts)) ≡ Some ordinal
-        → (found (Some user) ts ≡ Some ordinal → AreHers user ordinal ts)
-        → (eqb ordinal t.value.ordinal ≡ eqb user t.pair.user) × AreHers user ordinal ts
+        → (found (Some user) ts ≡ Some ordinal → AreOrdinalOf user ordinal ts)
+        → (eqb ordinal t.value.ordinal ≡ eqb user t.pair.user) × AreOrdinalOf user ordinal ts
     by true at is rest =
         let e : t.value.ordinal ≡ ordinal = cc in
         let same : t.pair.user ≡ user = sym (eqb-true user t.pair.user at) in (
@@ -288,7 +288,7 @@ are_hers user ordinal (t ∷ ts) rising different is =
         (other ordinal t.value.ordinal (found-above t.value.ordinal user ordinal ts rising.0 is) ∙ sym at, rest is)
 
 -- whoever is found by a seat of that ordinal is she
-hers-found : (user ordinal : ℕ) (ts : List (Tie Seat)) → AreHers user ordinal ts → (u : Option ℕ)
+hers-found : (user ordinal : ℕ) (ts : List (Tie Seat)) → AreOrdinalOf user ordinal ts → (u : Option ℕ)
     → found u ts ≡ Some ordinal → is_number u user ≡ true
 hers-found user ordinal [] hers u is = cc
 hers-found user ordinal (t ∷ ts) hers u is = by (is_number u t.pair.user) refl is (hers-found user ordinal ts hers.1 u)
@@ -305,7 +305,7 @@ hers-found user ordinal (t ∷ ts) hers u is = by (is_number u t.pair.user) refl
     by false at is rest = rest is
 
 -- without them, she has none and everybody else has hers
-found-left : (user ordinal : ℕ) (ts : List (Tie Seat)) → AreHers user ordinal ts → (u : Option ℕ)
+found-left : (user ordinal : ℕ) (ts : List (Tie Seat)) → AreOrdinalOf user ordinal ts → (u : Option ℕ)
     → found u (filter (λ (t : Tie Seat). not (eqb ordinal t.value.ordinal)) ts) ≡ cond (is_number u user) None
     (found u ts)
 found-left user ordinal [] hers u = by (is_number u user)
@@ -561,8 +561,8 @@ ordinal_in-after seats (Unassigned paper user ordinal) order fits u p =
     ∙ by (eqb p paper) refl
     ∙ ap (λ b. last_or (ordinal_in seats u p) (given (b && is_number u user) None)) (eqb-swap p paper)
   where
-    hers : eqb p paper ≡ true → AreHers user ordinal (seats_taken seats p)
-    hers at = are_hers user ordinal (seats_taken seats p) (rising-taken seats order p) (order.single p)
+    hers : eqb p paper ≡ true → AreOrdinalOf user ordinal (seats_taken seats p)
+    hers at = are_ordinal_of user ordinal (seats_taken seats p) (rising-taken seats order p) (order.single p)
         (ap (λ n. ordinal_in seats (Some user) n) (eqb-true p paper at) ∙ fits)
 
     gone : (c : Bool) → cond c None (ordinal_in seats u p) ≡ last_or (ordinal_in seats u p) (given c None)
@@ -582,7 +582,7 @@ pub ordinal_in-single : (seats : SeatsState) → SeatsInOrder seats → (u : Opt
     → ordinal_in seats (Some user) p ≡ Some ordinal → is_number u user ≡ true
 ordinal_in-single seats order u user p ordinal is hers =
     hers-found user ordinal (seats_taken seats p)
-    (are_hers user ordinal (seats_taken seats p) (rising-taken seats order p) (order.single p) hers) u is
+    (are_ordinal_of user ordinal (seats_taken seats p) (rising-taken seats order p) (order.single p) hers) u is
 
 -- no assignments are in order
 pub seats-in_order-nil : SeatsInOrder []

@@ -39,7 +39,7 @@ abbrev pub with_paper : ℕ → (Paper → Paper) → List Paper → List Paper
 with_paper p change papers =
     option_map_or (λ (paper : Paper). slice_set papers (p - 1) (change paper)) (numbered papers p) papers
 
--- a paper as it is submitted; with other texts; and withdrawn
+-- a paper as it is submitted
 abbrev pub new_paper : List ℕ → List ℕ → Paper
 new_paper title abstract = record { title = title; abstract_ = abstract; withdrawn = false }
 
@@ -68,7 +68,7 @@ papers_after state maker _ = state
 
 -- ---- what is read
 
--- how many papers there are, and their numbers
+-- how many papers there are
 abbrev pub paper_count : PapersState → ℕ
 paper_count state = length state.papers
 

@@ -175,7 +175,7 @@ authors_see_reviewers phase = is_from Notification phase
 abbrev pub authors_read_decisions : Phase → Bool
 authors_read_decisions phase = is_from Notification phase
 
--- chairs may have the letters to the authors
+-- a paper's authors may have the letter with what was decided of it
 abbrev pub letters_are_sent : Phase → Bool
 letters_are_sent phase = is_from Notification phase
 

@@ -51,7 +51,7 @@ pub record PlanPair : Type 0 where
   pub member : AccountLine
   pub bid : ℕ
 
--- the pairs of a paper, and all, by paper, then user number
+-- the pairs of this paper and a member who may be assigned to it, by user number
 abbrev pub pairs_of_paper : Facts → Shown → ℕ → List PlanPair
 pairs_of_paper facts shown p =
     map (λ (a : AccountLine). record { paper = p; member = a; bid = bid_by shown p a.user })

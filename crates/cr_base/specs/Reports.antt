@@ -89,7 +89,7 @@ space = codes " "
 unfoldable pub line_end : List ℕ
 line_end = codes "\n"
 
--- a text filled with spaces to this width: at its left, and at its right
+-- the text with spaces before it, up to this width
 abbrev pub to_right : ℕ → List ℕ → List ℕ
 to_right width text = replicate (width - length text) 32 ++ text
 
@@ -97,7 +97,7 @@ to_right width text = replicate (width - length text) 32 ++ text
 abbrev pub to_left : ℕ → List ℕ → List ℕ
 to_left width text = text ++ replicate (width - length text) 32
 
--- a number in a column of four, and of two
+-- the number, right-aligned in four columns
 abbrev pub in_four : ℕ → List ℕ
 in_four n = to_right 4 (decimal n)
 

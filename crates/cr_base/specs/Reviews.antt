@@ -49,7 +49,7 @@ last_form_in reviews p o = last (forms_in reviews p o)
 abbrev pub is_written_in : ReviewsState → ℕ → ℕ → Bool
 is_written_in reviews p o = not (is_nothing (forms_in reviews p o))
 
--- the last that was written before a phase began, and those that were written in it or later
+-- the last form under the paper's label of this ordinal that was written before this phase
 abbrev pub last_form_before : ReviewsState → ℕ → ℕ → Phase → Option WrittenForm
 last_form_before reviews p o phase =
     last (filter (λ (w : WrittenForm). not (is_from phase w.phase)) (forms_in reviews p o))

@@ -46,7 +46,7 @@ bit = range 0 1
 abbrev pub role_range : Range
 role_range = range 1 2
 
--- the numbers of a paper's versions: from 1, with no greatest
+-- the numbers of a paper's versions, of a label's forms and of a paper's comments: from 1, with no greatest
 abbrev pub version_range : Range
 version_range = record { low = 1; high = None; gap = None }
 

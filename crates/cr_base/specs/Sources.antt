@@ -151,7 +151,7 @@ shown_in_tables t = record {
   decision = decision_in t.decisions;
 }
 
--- the user of this name among the accounts, and the name of a user
+-- the user of this name; `None` if no account has it
 abbrev pub number_in : List AccountLine → List ℕ → Option ℕ
 number_in accounts name = option_map (λ a. a.user) (find (λ a. bytes_eq a.name name) accounts)
 

@@ -33,7 +33,7 @@ pub record TiesState : Type 0 where
 abbrev pub no_ties : TiesState
 no_ties = record { authors = []; conflicts = []; declared = []; bids = [] }
 
--- a paper and a user; and their tie
+-- a paper and a user
 abbrev pub pair_of : ℕ → ℕ → Pair
 pair_of paper user = record { paper = paper; user = user }
 

@@ -98,7 +98,7 @@ pub record IsAdded (H group : History) : Type 0 where
   pub beginning : IsBeginning H stamp first behind false
 
 -- a user's stamp is hers, and its number, if it has one, is new
-pub record IsHers (H : History) (stamp : Stamp) : Type 0 where
+pub record IsFromUser (H : History) (stamp : Stamp) : Type 0 where
   pub there : is_there (lines_of (tables_of H).accounts) stamp.maker ≡ true
   pub new : IsNewKey H (Some stamp.maker) stamp.key
 
@@ -115,7 +115,7 @@ pub least : (n : ℕ) → nat_le 1 (n + 1) ≡ true
 least n = grind (arith, nat_tests)
 
 -- where the first of a user's entries may stand
-pub hers-first : (H : History) (stamp : Stamp) (e : Entry) → IsLone e → IsHers H stamp → IsDrawn (tables_of H) stamp e
+pub hers-first : (H : History) (stamp : Stamp) (e : Entry) → IsLone e → IsFromUser H stamp → IsDrawn (tables_of H) stamp e
     → IsFirst H (unfinished stamp e)
 hers-first H stamp e lone hers drawn =
     let giver = lone-giver stamp.maker e lone in
@@ -139,7 +139,7 @@ module _ (H : History) (legal : Legal H) where
   drawn_of stamp command = drawn_by (lines_of t.accounts) stamp (deed_of stamp command)
 
   -- of a command that adds one entry
-  pub one-begins : (stamp : Stamp) → IsHers H stamp → (command : ResolvedCommand) → AddsOne command → (drawn : Drawn)
+  pub one-begins : (stamp : Stamp) → IsFromUser H stamp → (command : ResolvedCommand) → AddsOne command → (drawn : Drawn)
       → ◌≡◌ {A = Result Drawn Rule}
       (judge_resolved (facts_of_tables t (Some stamp.maker)) (shown_in_tables t) stamp command) (Ok drawn)
       → IsAdded H drawn.group
@@ -278,7 +278,7 @@ module _ (H : History) (legal : Legal H) where
       by false = below n right
 
   -- of these users, who are there
-  users-begin : (stamp : Stamp) → IsHers H stamp → (title abstract : List ℕ) (users : List ℕ)
+  users-begin : (stamp : Stamp) → IsFromUser H stamp → (title abstract : List ℕ) (users : List ℕ)
       → length users ≤ 19
       → NoneBroken (deed_of stamp (resolved.Submit title abstract (Some users))).checks
       → IsBeginning H stamp (deed_of stamp (resolved.Submit title abstract (Some users))).first
@@ -320,7 +320,7 @@ module _ (H : History) (legal : Legal H) where
       there = besides-all (λ (user : ℕ). is_there (lines_of t.accounts) user ≡ true) (stamp.maker ∷ []) users
           (all-there users (not-false (list_all (is_there (lines_of t.accounts)) users) none.0))
 
-  submission-begins : (stamp : Stamp) → IsHers H stamp → (title abstract : List ℕ) (names : List (Option (List ℕ)))
+  submission-begins : (stamp : Stamp) → IsFromUser H stamp → (title abstract : List ℕ) (names : List (Option (List ℕ)))
       → length names ≤ 19 → (drawn : Drawn)
       → judge_by_role t (call_by stamp (commands.Submit title abstract names)) ≡ Ok drawn → IsAdded H drawn.group
   submission-begins stamp hers title abstract names few drawn accepted =
@@ -368,7 +368,7 @@ module _ (H : History) (legal : Legal H) where
       (sym (Legal-judge H call legal) ∙ accepted)
     where
       hers : (user : ℕ) (key : Option RetryKey) → IsRegistered H user → IsNewKey H (Some user) key
-          → IsHers H (stamp_by user call.at key)
+          → IsFromUser H (stamp_by user call.at key)
       hers user key registered new = record { there = sym (registered-there H user legal) ∙ registered; new = new }
 
       registers : (caller : Option ℕ) (name digest : List ℕ) (key : Option RetryKey) → caller ≡ None

@@ -25,8 +25,8 @@ besides-new these (u ∷ users) =
     by : (b : Bool) → list_any (λ v. eqb v u) these ≡ b → AreNew these (besides these users)
         → AreNew (these ++ u ∷ []) (besides (these ++ u ∷ []) users)
         → AreNew these (cond b (besides these users) (u ∷ besides (these ++ u ∷ []) users))
-    by true is without with_her = without
-    by false is without with_her = (is, with_her)
+    by true is without with_user = without
+    by false is without with_user = (is, with_user)
 
 pub new-besides : (these users : List ℕ) → AreNew these users → besides these users ≡ users
 new-besides these [] new = refl
@@ -42,8 +42,8 @@ besides-all P these (u ∷ users) all =
   where
     by : (b : Bool) → AllByRecursion P (besides these users) → AllByRecursion P (besides (these ++ u ∷ []) users)
         → AllByRecursion P (cond b (besides these users) (u ∷ besides (these ++ u ∷ []) users))
-    by true without with_her = without
-    by false without with_her = (all.0, with_her)
+    by true without with_user = without
+    by false without with_user = (all.0, with_user)
 
 pub besides-few : (these users : List ℕ) → length (besides these users) ≤ length users
 besides-few these [] = omega arith
@@ -53,8 +53,8 @@ besides-few these (u ∷ users) =
     by : (b : Bool) → length (besides these users) ≤ length users
         → length (besides (these ++ u ∷ []) users) ≤ length users
         → length (cond b (besides these users) (u ∷ besides (these ++ u ∷ []) users)) ≤ length (u ∷ users)
-    by true without with_her = omega (arith, without)
-    by false without with_her = omega (arith, with_her)
+    by true without with_user = omega (arith, without)
+    by false without with_user = omega (arith, with_user)
 
 -- ---- no more than there are
 

@@ -71,7 +71,7 @@ is_of_row maker (Unassigned paper user ordinal) = true
 is_of_row maker (Tagged paper tag on) = true
 is_of_row maker e = false
 
--- the rules on a bulk as a whole, which judge its caller; and the user has registered and may give one
+-- the rules on a bulk as a whole, which judge its caller
 abbrev pub caller_judged : Tables → ℕ → Result (Unit {0}) Rule
 caller_judged t user = judged (bulk_checks (standing_at t (Some user) None)) tt
 

@@ -25,7 +25,7 @@ abbrev pub ◌>>=◌ : {A B : Type 0} → Option A → (A → Option B) → Opti
 None >>= f = None
 (Some x) >>= f = f x
 
--- whether a text is of a grammar, as a test and as a fact
+-- the text is of this grammar
 abbrev pub admits : Grammar → List ℕ → Bool
 admits Name text = is_name text
 admits Secret text = is_secret text
@@ -51,7 +51,7 @@ text_under key d = get key d >>= as_str
 abbrev pub tested_under : Grammar → List ℕ → Data → Option (List ℕ)
 tested_under grammar key d = text_under key d >>= passing (admits grammar)
 
--- the name, the title, the abstract, the text of a review and the comment under a key
+-- the name under a key
 abbrev pub name_under : List ℕ → Data → Option (List ℕ)
 name_under key d = tested_under Name key d
 

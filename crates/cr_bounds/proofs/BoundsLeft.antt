@@ -24,7 +24,7 @@ use Rattle.cr_bounds.specs.ShownTo.{is_superseded}
 use Rattle.cr_bounds.specs.ShownTo.{is_reviewed, is_discussed, is_party, is_told, where_known, paper_for}
 use Rattle.cr_bounds.specs.ShownTo.{reviewer_for}
 use Rattle.cr_bounds.specs.ShownTo.{knows_writers, learns_form, is_committees, is_chairs, reads_visiting}
-use Rattle.cr_bounds.specs.ShownTo.{has_before_her}
+use Rattle.cr_bounds.specs.ShownTo.{reads_to_judge}
 use Rattle.cr_bounds.specs.ViewBounds.{outsider, IsLeft, OutsidersShown}
 use Rattle.cr_bounds.proofs.BoundsParts.{IsWriters}
 use Rattle.cr_bounds.proofs.BoundsWalk.{shown_to, writers-all, all-view}
@@ -133,7 +133,7 @@ module _ (u : Option ℕ) (H : History) (paper : ℕ) (wrote : is_author u paper
   -- (`replaced`)
   abbrev pub maker_known : Bool
   maker_known = is_author u paper H || oversees u paper H
-      || (has_before_her u paper H && not (hides_authors (mode_of H))) || is_in_programme paper H
+      || (reads_to_judge u paper H && not (hides_authors (mode_of H))) || is_in_programme paper H
 
   abbrev pub title_known : Bool → Bool
   title_known replaced =
@@ -141,12 +141,12 @@ module _ (u : Option ℕ) (H : History) (paper : ℕ) (wrote : is_author u paper
 
   abbrev pub text_known : Bool → Bool → Bool
   text_known own replaced =
-      (own || is_author u paper H) || (not replaced && (has_before_her u paper H || appears paper H))
+      (own || is_author u paper H) || (not replaced && (reads_to_judge u paper H || appears paper H))
 
   -- nor reads it as an external: who submitted the paper is known where the paper is in the programme; a title to
   -- those who serve besides; and a text that isn't her own where the paper appears
   module _ (away : reads_visiting u paper H ≡ false) where
-    apart : has_before_her u paper H ≡ false
+    apart : reads_to_judge u paper H ≡ false
     apart = or_from (is_eligible u paper H) (reads_visiting u paper H) handled away
 
     pub maker-left : (maker : ℕ) → where_known maker_known maker ≡ cond (is_in_programme paper H)
@@ -154,7 +154,7 @@ module _ (u : Option ℕ) (H : History) (paper : ℕ) (wrote : is_author u paper
     maker-left maker =
         known-alone maker_known (is_in_programme paper H) maker
         (maker-hidden (is_author u paper H) (is_eligible u paper H) (chairs_committee (role_of u H))
-        (has_before_her u paper H)
+        (reads_to_judge u paper H)
         (hides_authors (mode_of H)) (is_in_programme paper H) wrote handled apart)
 
     pub title-left : (replaced : Bool) (title : List ℕ)
@@ -170,19 +170,19 @@ module _ (u : Option ℕ) (H : History) (paper : ℕ) (wrote : is_author u paper
         (where_known (text_known own replaced) text) None
     text-left own replaced text =
         known-alone (text_known own replaced) (own || appears paper H) text
-        (text-unread own (is_author u paper H) (not replaced) (has_before_her u paper H) (appears paper H) wrote apart)
+        (text-unread own (is_author u paper H) (not replaced) (reads_to_judge u paper H) (appears paper H) wrote apart)
 
     -- who is told of a co-author, a revision, an upload or a withdrawal
     abbrev pub coauthor_known : Bool → Bool
     coauthor_known own =
         (own || is_author u paper H) || oversees u paper H
-        || (has_before_her u paper H && not (hides_authors (mode_of H)))
+        || (reads_to_judge u paper H && not (hides_authors (mode_of H)))
         || is_in_programme paper H
 
     pub left-coauthor : (own : Bool) → coauthor_known own ≡ true → (own || is_in_programme paper H) ≡ true
     left-coauthor own =
         coauthor-left own (is_author u paper H) (is_eligible u paper H) (chairs_committee (role_of u H))
-        (has_before_her u paper H)
+        (reads_to_judge u paper H)
         (hides_authors (mode_of H)) (is_in_programme paper H) wrote handled apart
 
     pub left-revision : (own replaced : Bool)
@@ -196,7 +196,7 @@ module _ (u : Option ℕ) (H : History) (paper : ℕ) (wrote : is_author u paper
 
     pub left-upload : (own superseded : Bool) → text_known own superseded ≡ true → (own || appears paper H) ≡ true
     left-upload own superseded =
-        upload-left own (is_author u paper H) (not superseded) (has_before_her u paper H) (appears paper H) wrote apart
+        upload-left own (is_author u paper H) (not superseded) (reads_to_judge u paper H) (appears paper H) wrote apart
 
     pub left-withdrawal : (own : Bool) → ((own || is_author u paper H) || serves u H || reads_visiting u paper H) ≡ true
         → (own || serves u H) ≡ true

@@ -44,7 +44,7 @@ use Rattle.cr_bounds.specs.ShownTo.{switch_for}
 use Rattle.cr_bounds.specs.ShownTo.{value_for, review_kind_for, ordinal_for, score_for, confidence_for}
 use Rattle.cr_bounds.specs.ShownTo.{to_authors_for}
 use Rattle.cr_bounds.specs.ShownTo.{to_pc_for, done_for, n_for, text_for, tag_for, decision_for, outcome_for}
-use Rattle.cr_bounds.specs.ShownTo.{accepted_for, has_before_her, reads_visiting}
+use Rattle.cr_bounds.specs.ShownTo.{accepted_for, reads_to_judge, reads_visiting}
 use Rattle.cr_bounds.proofs.BoundsWords.{member-committee, chair-leads, chair-committee, phase-words, accept-takes}
 use Rattle.cr_bounds.proofs.BoundsWords.{mode-words, for-committee, for-chairs, none_in-replaced, none_in-superseded}
 use Rattle.cr_bounds.proofs.BoundsWords.{none_in-reviewed, none_in-decided, discussed-same, responded-same}
@@ -204,7 +204,7 @@ module _ (u : Option ℕ) (H : History) (at : Around) (stamp : Stamp) (more : Bo
   abbrev reading : ℕ → Bool
   reading p = (is_member (role_of u H) && not (is_conflicted u p H)) || outside p
 
-  before-same : (p : ℕ) → (reading p && is_from Bidding (phase_of H)) ≡ has_before_her u p H
+  before-same : (p : ℕ) → (reading p && is_from Bidding (phase_of H)) ≡ reads_to_judge u p H
   before-same p =
       by (is_member (role_of u H) && not (is_conflicted u p H)) (outside p) (is_from Bidding (phase_of H)) _ _
       (is_eligible-same p) (visiting-same p)
@@ -597,10 +597,10 @@ module _ (u : Option ℕ) (H : History) (at : Around) (stamp : Stamp) (more : Bo
   abstract-shown : (paper : ℕ) (abstract : List ℕ) (known : Bool)
       →
       (owns u H stamp.maker paper || (not (is_replaced paper at.after)
-      && (has_before_her u paper H || appears paper H))) ≡ known
+      && (reads_to_judge u paper H || appears paper H))) ≡ known
       → IsTextShown paper (reading paper) (is_published (phase_of H) (is_accepted paper H)) known abstract
   abstract-shown paper abstract known same =
-      text-one paper (reading paper) (has_before_her u paper H)
+      text-one paper (reading paper) (reads_to_judge u paper H)
       (is_published (phase_of H) (is_accepted paper H)) (appears paper H) known abstract
       (before-same paper) (appears-same paper) same
 

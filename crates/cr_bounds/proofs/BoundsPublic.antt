@@ -28,7 +28,7 @@ use Rattle.cr_bounds.specs.ShownTo.{is_eligible, administers, discusses, is_answ
 use Rattle.cr_bounds.specs.ShownTo.{is_announced, is_replaced, is_superseded, is_party, is_told, where_known}
 use Rattle.cr_bounds.specs.ShownTo.{paper_for}
 use Rattle.cr_bounds.specs.ShownTo.{reviewer_for, is_committees, is_chairs, visits, reads_visiting, user_for}
-use Rattle.cr_bounds.specs.ViewBounds.{IsPublicIn, names_her, is_reviewing, AccountsShown, IsStranger, StrangersShown}
+use Rattle.cr_bounds.specs.ViewBounds.{IsPublicIn, names_user, is_reviewing, AccountsShown, IsStranger, StrangersShown}
 use Rattle.cr_bounds.specs.ViewBounds.{NobodyShown}
 use Rattle.cr_bounds.proofs.BoundsWalk.{shown_to, all-view, each-view}
 use Rattle.cr_bounds.proofs.BoundsLeft.{user-known, known-not, comment-own, response-own, tag-own, bid-own}
@@ -41,7 +41,7 @@ use Rattle.cr_bounds.proofs.BoundsLeft.{verdict-unknown, outcome-unknown}
 
 -- the entry doesn't name her on a paper, nor is she a chair whom it would show an assignment, an invitation or a form
 abbrev pub IsUnnamed : Option ℕ → History → Entry → Type 0
-IsUnnamed u H e = (names_her u e ≡ false) × ((chairs_committee (role_of u H) && is_reviewing e) ≡ false)
+IsUnnamed u H e = (names_user u e ≡ false) × ((chairs_committee (role_of u H) && is_reviewing e) ≡ false)
 
 -- she didn't write the paper, if there is one
 abbrev pub IsUnwritten : Option ℕ → History → Option ℕ → Type 0
@@ -299,7 +299,7 @@ module _ (u : Option ℕ) (H : History) where
 
   pub names-seen : (before later : History) (stamp : Stamp) (e : Entry)
       → is_user u (user_for u H before later stamp e) ≡ false
-      → names_her u e ≡ false
+      → names_user u e ≡ false
   names-seen before later stamp (Coauthor paper user) h = h
   names-seen before later stamp (Conflict paper user on) h = h
   names-seen before later stamp (Invited paper user) h = h
@@ -356,12 +356,12 @@ accounts-shown u p H out = each-view u H IsShown each
 -- ---- strangers, and nobody
 
 module _ (u : Option ℕ) (H : History) where
-  unnamed-all : (G : History) → list_any (λ (e : Stamped). names_her u e.entry) G ≡ false
+  unnamed-all : (G : History) → list_any (λ (e : Stamped). names_user u e.entry) G ≡ false
       → (chairs_committee (role_of u H) && list_any (λ (e : Stamped). is_reviewing e.entry) G) ≡ false
       → AllByRecursion (λ (e : Stamped). IsUnnamed u H e.entry) G
   unnamed-all [] named led = tt
   unnamed-all (e ∷ G) named led =
-      let names = or_parts (names_her u e.entry) (list_any (λ (e : Stamped). names_her u e.entry) G) named in
+      let names = or_parts (names_user u e.entry) (list_any (λ (e : Stamped). names_user u e.entry) G) named in
       let leads = either (chairs_committee (role_of u H)) (is_reviewing e.entry)
       (list_any (λ (e : Stamped). is_reviewing e.entry) G) led in
       ((names.0, leads.0), unnamed-all G names.1 leads.1)
@@ -371,18 +371,18 @@ module _ (u : Option ℕ) (H : History) where
       either false a b h = (refl, refl)
 
   -- whom no entry names on a paper isn't invited to any
-  uninvited-all : (p : ℕ) (G : History) → list_any (λ (e : Stamped). names_her u e.entry) G ≡ false
+  uninvited-all : (p : ℕ) (G : History) → list_any (λ (e : Stamped). names_user u e.entry) G ≡ false
       → all_told (invite_told u p) G ≡ []
   uninvited-all p [] named = refl
   uninvited-all p (e ∷ G) named =
-      let names = or_parts (names_her u e.entry) (list_any (λ (e : Stamped). names_her u e.entry) G) named in
+      let names = or_parts (names_user u e.entry) (list_any (λ (e : Stamped). names_user u e.entry) G) named in
       ap (λ xs. xs ++ all_told (invite_told u p) G) (one e.entry names.0) ∙ uninvited-all p G names.1
     where
       none : (same n x : Bool) → n ≡ false → given (same && n) x ≡ []
       none true n x h = ap (λ b. given b x) h
       none false n x h = refl
 
-      one : (e : Entry) → names_her u e ≡ false → invite_told u p e ≡ []
+      one : (e : Entry) → names_user u e ≡ false → invite_told u p e ≡ []
       one (Invited paper user) h = none (eqb paper p) (is_number u user) true h
       one (Uninvited paper user) h = none (eqb paper p) (is_number u user) false h
       one e h = refl
@@ -433,7 +433,7 @@ nobody-stranger H = record {
     no-role [] = refl
     no-role (e ∷ H) = ap (λ xs. xs ++ all_told (role_told None) H) (role-entry e.entry) ∙ no-role H
 
-    name-entry : (e : Entry) → names_her None e ≡ false
+    name-entry : (e : Entry) → names_user None e ≡ false
     name-entry (Coauthor paper user) = refl
     name-entry (Conflict paper user on) = refl
     name-entry (Assigned paper user review_kind ordinal) = refl
@@ -442,9 +442,9 @@ nobody-stranger H = record {
     name-entry (Uninvited paper user) = refl
     name-entry e = refl
 
-    no-name : (H : History) → list_any (λ (e : Stamped). names_her None e.entry) H ≡ false
+    no-name : (H : History) → list_any (λ (e : Stamped). names_user None e.entry) H ≡ false
     no-name [] = refl
-    no-name (e ∷ H) = ap (λ b. b || list_any (λ (e : Stamped). names_her None e.entry) H) (name-entry e.entry)
+    no-name (e ∷ H) = ap (λ b. b || list_any (λ (e : Stamped). names_user None e.entry) H) (name-entry e.entry)
         ∙ no-name H
 
 pub nobody-shown : NobodyShown

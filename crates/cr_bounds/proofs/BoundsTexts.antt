@@ -20,7 +20,7 @@ use Rattle.cr_policy.specs.Sighting.{Sighting}
 use Rattle.cr_policy.specs.View.{view}
 use Rattle.cr_policy.specs.ViewFacts.{only}
 use Rattle.cr_policy.proofs.Walk.{only-true, only-false, flat_map-given}
-use Rattle.cr_bounds.specs.ShownTo.{serves, reads_visiting, has_before_her, discusses, is_notified, is_in_programme}
+use Rattle.cr_bounds.specs.ShownTo.{serves, reads_visiting, reads_to_judge, discusses, is_notified, is_in_programme}
 use Rattle.cr_bounds.specs.ShownTo.{appears, decides, is_decided_again, is_told, where_known, gives_texts}
 use Rattle.cr_bounds.specs.ShownTo.{is_replaced}
 use Rattle.cr_bounds.specs.ShownTo.{gives_content, is_superseded, each_told}
@@ -193,7 +193,7 @@ one-abstract u p H stranger =
     one-view u p H (gives_texts p) abstract_given (may p) (part_shown (λ (s : Sighting). s.abstract) p) shows
   where
     may : ℕ → Bool
-    may n = has_before_her u n H || appears n H
+    may n = reads_to_judge u n H || appears n H
 
     shows : ShowsLast u p H (gives_texts p) abstract_given (may p) (part_shown (λ (s : Sighting). s.abstract) p)
     shows before later stamp (Submitted paper title abstract) =
@@ -209,7 +209,7 @@ one-content u p H stranger =
     one-view u p H (gives_content p) content_given (may p) (part_shown (λ (s : Sighting). s.content) p) shows
   where
     may : ℕ → Bool
-    may n = has_before_her u n H || appears n H
+    may n = reads_to_judge u n H || appears n H
 
     shows : ShowsLast u p H (gives_content p) content_given (may p) (part_shown (λ (s : Sighting). s.content) p)
     shows before later stamp (Uploaded paper version content) =

@@ -15,7 +15,7 @@ use Rattle.cr_base.specs.HistoryFacts.{mode_of, phase_of, role_of, is_author, is
 use Rattle.cr_policy.specs.Sighting.{Sighting}
 use Rattle.cr_policy.specs.ViewFacts.{is_user}
 use Rattle.cr_bounds.specs.ShownTo.{is_on_committee, chairs_committee, is_past_submission, hides_authors}
-use Rattle.cr_bounds.specs.ShownTo.{serves, is_eligible, has_before_her, reads_visiting}
+use Rattle.cr_bounds.specs.ShownTo.{serves, is_eligible, reads_to_judge, reads_visiting}
 use Rattle.cr_bounds.specs.ShownTo.{is_in_programme, is_told, where_known, paper_for, user_for}
 use Rattle.cr_bounds.specs.ViewBounds.{ExternalsShown, IsVisitors, visit}
 use Rattle.cr_bounds.proofs.BoundsWalk.{shown_to, each-view}
@@ -73,7 +73,7 @@ module _ (u : Option ℕ) (H : History) where
     maker-visited maker =
         known-alone (maker_known u H paper unwritten handled) is_named maker
         (maker-unnamed (is_author u paper H) (is_eligible u paper H) (chairs_committee (role_of u H))
-        (has_before_her u paper H) (hides_authors (mode_of H)) (is_in_programme paper H) unwritten handled)
+        (reads_to_judge u paper H) (hides_authors (mode_of H)) (is_in_programme paper H) unwritten handled)
 
     module _ (before later : History) (stamp : Stamp) (e : Entry) where
       own-not : (is_number u stamp.maker || is_user u (user_for u H before later stamp e)) ≡ false
@@ -102,7 +102,7 @@ module _ (u : Option ℕ) (H : History) where
   visitor-one before later stamp (Coauthor paper user) told = λ reads other.
       let own = own-not paper reads before later stamp (Coauthor paper user) other in (
         coauthor-named (is_number u stamp.maker) (is_author u paper H) (is_eligible u paper H)
-            (chairs_committee (role_of u H)) (has_before_her u paper H) (hides_authors (mode_of H))
+            (chairs_committee (role_of u H)) (reads_to_judge u paper H) (hides_authors (mode_of H))
             (is_in_programme paper H) own (unwritten paper reads) (handled paper reads) told,
         λ i. record (shown_to u H before later stamp (Coauthor paper user)) {
           mine = own i;

@@ -114,8 +114,8 @@ abbrev pub reads_visiting : Option ℕ → ℕ → History → Bool
 reads_visiting u p H = visits u p H && not (has_conflict u p H) && is_past_submission (phase_of H)
 
 -- the user may read the paper to judge it: is eligible for it, or reads it as an external
-abbrev pub has_before_her : Option ℕ → ℕ → History → Bool
-has_before_her u p H = is_eligible u p H || reads_visiting u p H
+abbrev pub reads_to_judge : Option ℕ → ℕ → History → Bool
+reads_to_judge u p H = is_eligible u p H || reads_visiting u p H
 
 -- the user is eligible for the paper, and is a chair
 abbrev pub oversees : Option ℕ → ℕ → History → Bool
@@ -321,13 +321,13 @@ is_told u H before later maker (Submitted paper title abstract) = true
 is_told u H before later maker (Coauthor paper user) =
     owns u H maker paper
     || oversees u paper H
-    || (has_before_her u paper H && not (hides_authors (mode_of H)))
+    || (reads_to_judge u paper H && not (hides_authors (mode_of H)))
     || is_in_programme paper H
 is_told u H before later maker (Revised paper title abstract) =
     owns u H maker paper
     || (not (is_replaced paper later) && (serves u H || reads_visiting u paper H || is_in_programme paper H))
 is_told u H before later maker (Uploaded paper version content) =
-    owns u H maker paper || (not (is_superseded paper later) && (has_before_her u paper H || appears paper H))
+    owns u H maker paper || (not (is_superseded paper later) && (reads_to_judge u paper H || appears paper H))
 is_told u H before later maker (Withdrawn paper) = owns u H maker paper || serves u H || reads_visiting u paper H
 is_told u H before later maker (Conflict paper user on) =
     is_number u user
@@ -444,7 +444,7 @@ mode_for u H before later stamp _ = None
 abbrev pub maker_for : PartFor (Option ℕ)
 maker_for u H before later stamp (Submitted paper title abstract) =
     where_known (is_author u paper H || oversees u paper H
-    || (has_before_her u paper H && not (hides_authors (mode_of H))) || is_in_programme paper H) stamp.maker
+    || (reads_to_judge u paper H && not (hides_authors (mode_of H))) || is_in_programme paper H) stamp.maker
 maker_for u H before later stamp (Bid paper value) = where_known (oversees u paper H) stamp.maker
 maker_for u H before later stamp (Commented paper n ordinal text) =
     where_known (discusses u paper H && knows_writers u H) stamp.maker
@@ -466,19 +466,19 @@ title_for u H before later stamp _ = None
 abbrev pub abstract_for : PartFor (Option (List ℕ))
 abstract_for u H before later stamp (Submitted paper title abstract) =
     where_known (is_author u paper H
-    || (not (is_replaced paper later) && (has_before_her u paper H || appears paper H))) abstract
+    || (not (is_replaced paper later) && (reads_to_judge u paper H || appears paper H))) abstract
 abstract_for u H before later stamp (Revised paper title abstract) =
     where_known (owns u H stamp.maker paper
-    || (not (is_replaced paper later) && (has_before_her u paper H || appears paper H))) abstract
+    || (not (is_replaced paper later) && (reads_to_judge u paper H || appears paper H))) abstract
 abstract_for u H before later stamp _ = None
 
 -- the number of a version of a content: to the paper's authors and to the user who made the entry; the last one also to
--- those who may read the paper to judge it, and to everyone if it appears. Of a form, the version that it judges: to
--- those who read all of the form.
+-- those who may read the paper to judge it, and to everyone if it appears. The number of a form among those under its
+-- label: to those who read all of the form.
 abbrev pub version_for : PartFor (Option ℕ)
 version_for u H before later stamp (Uploaded paper version content) =
     where_known (owns u H stamp.maker paper
-    || (not (is_superseded paper later) && (has_before_her u paper H || appears paper H))) version
+    || (not (is_superseded paper later) && (reads_to_judge u paper H || appears paper H))) version
 version_for u H before later stamp (Reviewed paper ordinal version form) =
     where_known (reads_form u H before later stamp.maker paper ordinal) version
 version_for u H before later stamp _ = None
@@ -487,7 +487,7 @@ version_for u H before later stamp _ = None
 abbrev pub content_for : PartFor (Option (List ℕ))
 content_for u H before later stamp (Uploaded paper version content) =
     where_known (owns u H stamp.maker paper
-    || (not (is_superseded paper later) && (has_before_her u paper H || appears paper H))) content
+    || (not (is_superseded paper later) && (reads_to_judge u paper H || appears paper H))) content
 content_for u H before later stamp _ = None
 
 -- whether a conflict, or a tag, is on: always

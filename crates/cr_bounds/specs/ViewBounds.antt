@@ -99,7 +99,7 @@ TitlesShown = Shows (λ (s : Sighting). s.title) title_for
 abbrev pub AbstractsShown : Type 0
 AbstractsShown = Shows (λ (s : Sighting). s.abstract) abstract_for
 
--- the number of a version of a content, and that of the version that a form judges
+-- the number of a version of a content, and that of a form among those under its label
 abbrev pub VersionsShown : Type 0
 VersionsShown = Shows (λ (s : Sighting). s.version) version_for
 
@@ -330,8 +330,8 @@ pub record Outsider : Type 0 where
 
 -- a sighting of an entry of this kind with only its paper and, if the entry is the reader's own, this mark, its
 -- timestamp and its number
-abbrev pub as_hers : EntryKind → Sighting → Sighting
-as_hers kind s =
+abbrev pub only_own_marks : EntryKind → Sighting → Sighting
+only_own_marks kind s =
     record (blank kind) {
       mine = s.mine;
       paper = s.paper;
@@ -362,41 +362,41 @@ IsLeft u is kinds.Submitted s =
       abstract = if is.appearing then s.abstract else None;
     }
 IsLeft u is kinds.Coauthor s =
-    IsTrue (s.mine || is.announced) × (s ≡ record (as_hers kinds.Coauthor s) { user = s.user })
+    IsTrue (s.mine || is.announced) × (s ≡ record (only_own_marks kinds.Coauthor s) { user = s.user })
 IsLeft u is kinds.Revised s =
     IsTrue (s.mine || is.serving || is.announced)
-    × (s ≡ record (as_hers kinds.Revised s) {
+    × (s ≡ record (only_own_marks kinds.Revised s) {
       title = s.title;
       abstract = if s.mine || is.appearing then s.abstract else None;
     })
 IsLeft u is kinds.Uploaded s =
     IsTrue (s.mine || is.appearing)
-    × (s ≡ record (as_hers kinds.Uploaded s) { version = s.version; content = s.content })
+    × (s ≡ record (only_own_marks kinds.Uploaded s) { version = s.version; content = s.content })
 IsLeft u is kinds.Withdrawn s =
-    IsTrue (s.mine || is.serving) × (s ≡ as_hers kinds.Withdrawn s)
+    IsTrue (s.mine || is.serving) × (s ≡ only_own_marks kinds.Withdrawn s)
 IsLeft u is kinds.Conflict s =
-    IsTrue (s.mine || is_user u s.user) × (s ≡ record (as_hers kinds.Conflict s) { user = s.user; on = s.on })
+    IsTrue (s.mine || is_user u s.user) × (s ≡ record (only_own_marks kinds.Conflict s) { user = s.user; on = s.on })
 IsLeft u is kinds.Bid s =
-    IsTrue s.mine × (s ≡ record (as_hers kinds.Bid s) { value = s.value })
+    IsTrue s.mine × (s ≡ record (only_own_marks kinds.Bid s) { value = s.value })
 IsLeft u is kinds.Assigned s =
     IsTrue (s.mine || is_user u s.user || is.administering)
-    × (s ≡ record (as_hers kinds.Assigned s) {
+    × (s ≡ record (only_own_marks kinds.Assigned s) {
       user = s.user;
       review_kind = s.review_kind;
       ordinal = s.ordinal;
     })
 IsLeft u is kinds.Unassigned s =
     IsTrue (s.mine || is_user u s.user || is.administering)
-    × (s ≡ record (as_hers kinds.Unassigned s) { user = s.user; ordinal = s.ordinal })
+    × (s ≡ record (only_own_marks kinds.Unassigned s) { user = s.user; ordinal = s.ordinal })
 IsLeft u is kinds.Invited s =
     IsTrue (s.mine || is_user u s.user || is.administering)
-    × (s ≡ record (as_hers kinds.Invited s) { user = s.user })
+    × (s ≡ record (only_own_marks kinds.Invited s) { user = s.user })
 IsLeft u is kinds.Uninvited s =
     IsTrue (s.mine || is_user u s.user || is.administering)
-    × (s ≡ record (as_hers kinds.Uninvited s) { user = s.user })
+    × (s ≡ record (only_own_marks kinds.Uninvited s) { user = s.user })
 IsLeft u is kinds.Reviewed s =
     IsTrue (s.mine || is.administering)
-    × (s ≡ record (as_hers kinds.Reviewed s) {
+    × (s ≡ record (only_own_marks kinds.Reviewed s) {
       ordinal = s.ordinal;
       version = if s.mine then s.version else None;
       score = if s.mine then s.score else None;
@@ -406,13 +406,13 @@ IsLeft u is kinds.Reviewed s =
       done = if is.administering then s.done else None;
     })
 IsLeft u is kinds.Commented s =
-    IsTrue s.mine × (s ≡ record (as_hers kinds.Commented s) { n = s.n; ordinal = s.ordinal; text = s.text })
-IsLeft u is kinds.Responded s = IsTrue s.mine × (s ≡ record (as_hers kinds.Responded s) { text = s.text })
+    IsTrue s.mine × (s ≡ record (only_own_marks kinds.Commented s) { n = s.n; ordinal = s.ordinal; text = s.text })
+IsLeft u is kinds.Responded s = IsTrue s.mine × (s ≡ record (only_own_marks kinds.Responded s) { text = s.text })
 IsLeft u is kinds.Tagged s =
-    IsTrue s.mine × (s ≡ record (as_hers kinds.Tagged s) { tag = s.tag; on = s.on })
+    IsTrue s.mine × (s ≡ record (only_own_marks kinds.Tagged s) { tag = s.tag; on = s.on })
 IsLeft u is kinds.Decided s =
     IsTrue (s.mine || is.announced)
-    × (s ≡ record (as_hers kinds.Decided s) {
+    × (s ≡ record (only_own_marks kinds.Decided s) {
       decision = if s.mine then s.decision else None;
       accepted = if is.announced then s.accepted else None;
     })
@@ -531,8 +531,8 @@ abbrev pub IsPublicIn : History → Sighting → Type 0
 IsPublicIn H s = IsPublic (at_some (λ p. is_in_programme p H) s.paper) (at_some (λ p. appears p H) s.paper) s.kind s
 
 -- the entry is on a paper, and names the user
-abbrev pub names_her : Option ℕ → Entry → Bool
-names_her u e = is_some (paper_about e) && at_some (is_number u) (user_about e)
+abbrev pub names_user : Option ℕ → Entry → Bool
+names_user u e = is_some (paper_about e) && at_some (is_number u) (user_about e)
 
 -- the entry is one of those of which chairs in no conflict with the paper are told in every phase: an assignment, its
 -- end, an invitation, its end, or a form
@@ -549,7 +549,7 @@ is_reviewing _ = false
 pub record IsStranger (u : Option ℕ) (H : History) : Type 0 where
   pub author : (p : ℕ) → IsFalse (is_author u p H)
   pub serving : IsFalse (serves u H)
-  pub named : IsFalse (list_any (λ (e : Stamped). names_her u e.entry) H)
+  pub named : IsFalse (list_any (λ (e : Stamped). names_user u e.entry) H)
   pub leading : IsFalse (chairs_committee (role_of u H) && list_any (λ (e : Stamped). is_reviewing e.entry) H)
 
 -- a user who isn't on the committee, and neither an author nor an external of the paper, is shown of it at most what is

@@ -72,8 +72,8 @@ there kind V = list_any (λ (s : Sighting). is_kind kind s) V
 abbrev names : EntryKind → ℕ → View → Bool
 names kind user V = list_any (λ (s : Sighting). is_kind kind s && is_user (Some user) s.user) V
 
-abbrev by_her : EntryKind → ℕ → View → Bool
-by_her kind user V = list_any (λ (s : Sighting). is_kind kind s && is_user (Some user) s.by) V
+abbrev tells_maker : EntryKind → ℕ → View → Bool
+tells_maker kind user V = list_any (λ (s : Sighting). is_kind kind s && is_user (Some user) s.by) V
 
 -- ---- calls
 
@@ -288,7 +288,7 @@ submitter-hidden d are =
     (goes_on _ _ (submits gus proofs we_prove refl refl ∷ opens Bidding alice ∷ []) refl
     (submission-so d are Anonymous))
     (refl, tt) (λ p. refl) (λ p hers. absurd (true≢false (sym hers ∙ no_author (1 == p))))
-    (apart (by_her kinds.Submitted bob) _ _ refl)
+    (apart (tells_maker kinds.Submitted bob) _ _ refl)
   where
     no_author : (b : Bool) → list_any (is_number (Some dave)) (given b bob ++ []) ≡ false
     no_author true = refl
@@ -364,7 +364,7 @@ bid-hidden d are =
 pub bidder-hidden : pairs.BidderHidden
 bidder-hidden d are =
     once (bids-so d are Blind) (by dave (Bid (Some 1) 25) (omega arith)) (by hal (Bid (Some 1) 25) (omega arith)) []
-    (by_her kinds.Bid dave) refl refl refl refl refl
+    (tells_maker kinds.Bid dave) refl refl refl refl refl
 
 pub tag-hidden : pairs.TagHidden
 tag-hidden d are = once (tagged-so d are) (tags dave true) (tags dave false) [] last_on refl refl refl refl refl
@@ -552,7 +552,7 @@ comment-hidden d are =
     (list_any (λ (s : Sighting). is_text agreed s.text)) refl refl refl refl refl
 
 pub writer-hidden : pairs.WriterHidden
-writer-hidden d are = once (talk-so d are Anonymous) (agrees carol) (agrees dave) [] (by_her kinds.Commented carol) refl
+writer-hidden d are = once (talk-so d are Anonymous) (agrees carol) (agrees dave) [] (tells_maker kinds.Commented carol) refl
     refl refl refl refl
 
 -- paper 1 is decided so

@@ -322,7 +322,7 @@ ToPcHidden = AlikeTo bob hal in_reviews
     (dave adds Reviewed 1 1 1 first_form) (dave adds Reviewed 1 1 1 other_to_pc)
     (alice adds PhaseSet Discussion ∷ alice adds PhaseSet Notification ∷ [])
 
--- this member is assigned and writes the form, and the discussion is opened
+-- this member is assigned, the reviewing is opened, and the member writes the form
 abbrev pub reviewed_by : ℕ → History
 reviewed_by member =
     alice adds Assigned 1 member Primary 1 ∷ alice adds PhaseSet Reviewing ∷ member adds Reviewed 1 1 1 first_form ∷ []

@@ -79,10 +79,10 @@ pub fn law_first_told()
     ensures { FirstTold }
 {}
 
-/// Has for each kind of entry, and each part of it that is hidden from some user, two legal histories that differ in
-/// that part. They meet the conditions of `law_hidden_payload` of cr_policy for one user, who sees the same of both,
-/// while another user doesn't. Timestamps and numbers are tried once for all kinds, and a co-author's entry is its
-/// submitter's. What a new member's role is, and which phase, mode or deadline is set, everyone is shown.
+/// Has for each part of an entry that is listed here two legal histories that differ in that part. They meet the
+/// conditions of `law_hidden_payload` of cr_policy for one user, who sees the same of both, while another user doesn't.
+/// Timestamps and numbers are tried once for all kinds, and a co-author's entry is its submitter's. What a new member's
+/// role is, and which phase, mode or deadline is set, everyone is shown.
 ///
 /// Pairs that differ in a value only: `digests`, `titles`, `abstracts`, `revisions`, `contents`, `bids`, `seats`,
 /// `tags`, `forms`, `forms_to_members`, `to_pc`, `early_to_pc`, `late_forms`, `responses`, `responses_to_accounts`,

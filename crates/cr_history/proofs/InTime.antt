@@ -21,7 +21,7 @@ use Rattle.cr_base.specs.HistoryFacts.{phase_of, authors_of, is_author}
 use Rattle.cr_base.specs.Phases.{committee_reads_from, phase_rank, is_from, is_next, is_phase, authors_have_declared}
 use Rattle.cr_base.specs.Drawn.{stamped, submission}
 use Rattle.cr_history.proofs.Folds.{last_or-append}
-use Rattle.cr_history.specs.Invariants.{is_opening, ByAuthor, ByHerselfOrOther, Early, Late, DeclaresInTime}
+use Rattle.cr_history.specs.Invariants.{is_opening, ByAuthor, ByNamedOrOther, Early, Late, DeclaresInTime}
 use Rattle.cr_history.specs.Invariants.{IsDiscussedInTime, IsRespondedInTime, IsInPhase, IsByRight}
 use Rattle.cr_history.proofs.ListCuts.{AllByRecursion-append, AllByRecursion-map, AllByRecursion-until, until-none}
 use Rattle.cr_history.proofs.ListCuts.{since-none, until-append, since-append, until-before, since-before}
@@ -98,8 +98,8 @@ early-more H g maker (Conflict paper user on) h =
 early-more H g maker e h = tt
 
 -- who made a late entry becomes no author, where nobody does
-late-more : (H g : History) → ((p : ℕ) → authors_of p g ≡ []) → (maker : ℕ) (e : Entry) → ByHerselfOrOther H maker e
-    → ByHerselfOrOther (H ++ g) maker e
+late-more : (H g : History) → ((p : ℕ) → authors_of p g ≡ []) → (maker : ℕ) (e : Entry) → ByNamedOrOther H maker e
+    → ByNamedOrOther (H ++ g) maker e
 late-more H g none maker (Conflict paper user on) h = λ other.
     author-append (Some maker) paper H g
     ∙ ap (λ b. b || is_author (Some maker) paper g) (h other)
@@ -115,7 +115,7 @@ early-new H soon maker (Conflict paper user on) h = by_author _ _ _ _ soon h
 early-new H soon maker e h = tt
 
 late-new : (H : History) → authors_have_declared (phase_of H) ≡ true → (maker : ℕ) (e : Entry) → EntryAllowed H maker e
-    → ByHerselfOrOther H maker e
+    → ByNamedOrOther H maker e
 late-new H begun maker (Conflict paper user on) h = by_other _ _ _ _ _ _ _ begun h
   where
     by_other : (begun own on may chair author declared : Bool) → begun ≡ true

@@ -280,9 +280,9 @@ ByAuthor H maker (Conflict paper user on) = IsTrue (is_author (Some maker) paper
 ByAuthor H maker e = Unit {0}
 
 -- the maker of a conflict is the user whom it names, or no author of its paper
-abbrev pub ByHerselfOrOther : History → ℕ → Entry → Type 0
-ByHerselfOrOther H maker (Conflict paper user on) = IsFalse (user == maker) → IsFalse (is_author (Some maker) paper H)
-ByHerselfOrOther H maker e = Unit {0}
+abbrev pub ByNamedOrOther : History → ℕ → Entry → Type 0
+ByNamedOrOther H maker (Conflict paper user on) = IsFalse (user == maker) → IsFalse (is_author (Some maker) paper H)
+ByNamedOrOther H maker e = Unit {0}
 
 -- the maker of the entry, if it is a conflict, is an author of its paper at the end of the history; it is asked of
 -- entries before the bidding is opened
@@ -292,7 +292,7 @@ Early H e = ByAuthor H e.stamp.maker e.entry
 -- the maker of the entry, if it is a conflict, is the user whom it names, or no author of its paper at the end of the
 -- history; it is asked of entries after the bidding is opened
 abbrev pub Late : History → Stamped → Type 0
-Late H e = ByHerselfOrOther H e.stamp.maker e.entry
+Late H e = ByNamedOrOther H e.stamp.maker e.entry
 
 -- before the bidding each conflict entry is made by an author of its paper; from the bidding on, one whose maker isn't
 -- the user named is made by no author; and an entry opens the bidding exactly where it is that phase or a later one

@@ -16,7 +16,7 @@ unfoldable pub truth_text : Bool → List ℕ
 truth_text true = codes "true"
 truth_text false = codes "false"
 
--- a bid, which is kept plus 20, as a number from -20 to 20
+-- the sign of a number
 unfoldable pub minus : Bool → List ℕ
 minus is_negative = if is_negative then codes "-" else []
 

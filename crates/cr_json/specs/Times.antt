@@ -65,7 +65,7 @@ civil_parts t = record {
 
 -- ---- its text
 
--- the last digit of a number in decimal, its last two, and its last four
+-- the last digit of a number in decimal
 abbrev pub last_digit : ℕ → ℕ
 last_digit n = 48 + n % 10
 

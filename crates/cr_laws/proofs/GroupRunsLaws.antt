@@ -8,7 +8,7 @@ use Rattle.std.proofs.lemmas.List.Elements.{filter-append}
 use Rattle.cr_base.specs.History.{History}
 use Rattle.cr_base.specs.Lists.{given}
 use Rattle.cr_session.specs.Told.{sending_of, told, told_to, after_wish}
-use Rattle.cr_session.specs.TwoRuns.{WishInTurn, is_same, is_hers, hears}
+use Rattle.cr_session.specs.TwoRuns.{WishInTurn, is_same, is_wish_of, hears}
 use Rattle.cr_undeduced.proofs.Among.{Among, among-contained}
 use Rattle.cr_laws.specs.GroupRuns.{is_theirs, Meeting, meeting, group_meets, Exchange, exchange, exchanges}
 use Rattle.cr_laws.specs.GroupRuns.{TwoRunsOfGroup, EachHearsAlike}
@@ -59,19 +59,19 @@ module _ (group : List (Option ℕ)) (u : Option ℕ) (among : Among u group) wh
   own-append xs ys = ap (map text_of) (filter-append is_own xs ys)
       ∙ map-append text_of (filter is_own xs) (filter is_own ys)
 
-  own-one : (H : History) (w : WishInTurn) (hers theirs : Bool) → is_hers u H w.wish ≡ hers
+  own-one : (H : History) (w : WishInTurn) (hers theirs : Bool) → is_wish_of u H w.wish ≡ hers
       → is_theirs group H w.wish ≡ theirs
       → given hers (told H w.wish w.closes) ≡ own_texts (given theirs (exchange H w))
   own-one H w true true is in_group = sym (ap (λ (b : Bool). map text_of (given b (exchange H w))) is)
   own-one H w true false is in_group =
-      absurd (true≢false (sym (among (λ v. is_hers v H w.wish) is) ∙ in_group))
+      absurd (true≢false (sym (among (λ v. is_wish_of v H w.wish) is) ∙ in_group))
   own-one H w false true is in_group = sym (ap (λ (b : Bool). map text_of (given b (exchange H w))) is)
   own-one H w false false is in_group = refl
 
   own-heard : (H : History) (ws : List WishInTurn) → hears u H ws ≡ own_texts (exchanges group H ws)
   own-heard H [] = refl
   own-heard H (w ∷ ws) =
-      (λ i. own-one H w (is_hers u H w.wish) (is_theirs group H w.wish) refl refl i
+      (λ i. own-one H w (is_wish_of u H w.wish) (is_theirs group H w.wish) refl refl i
       ++ own-heard (after_wish H w.wish) ws i)
       ∙ sym (own-append (given (is_theirs group H w.wish) (exchange H w)) (exchanges group (after_wish H w.wish) ws))
 

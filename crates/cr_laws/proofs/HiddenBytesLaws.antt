@@ -9,7 +9,7 @@ use Rattle.cr_policy.specs.View.{view}
 use Rattle.cr_policy.proofs.RemovedLaws.{looks-same}
 use Rattle.cr_bounds.proofs.ResponseBoundLaws.{later-forms, unheard-forms}
 use Rattle.cr_session.specs.Told.{after_wish}
-use Rattle.cr_session.specs.TwoRuns.{WishInTurn, Run, Encounter, HearsAlike, is_hers, meets}
+use Rattle.cr_session.specs.TwoRuns.{WishInTurn, Run, Encounter, HearsAlike, is_wish_of, meets}
 use Rattle.cr_session.proofs.TwoRunsLaws.{two_runs}
 use Rattle.cr_laws.specs.AskedAlike.{Asked, AllAskedAlike, AsksAlike, asks}
 use Rattle.cr_laws.specs.HiddenBytes.{HiddenBytes}
@@ -22,8 +22,8 @@ encounter_at u a = record { seen = view u a.before; wish = a.wish; closes = a.cl
 meets-by_asks : (u : Option ℕ) (H : History) (ws : List WishInTurn) → meets u H ws ≡ map (encounter_at u) (asks u H ws)
 meets-by_asks u H [] = refl
 meets-by_asks u H (w ∷ ws) =
-    (λ i. one (is_hers u H w.wish) i ++ meets-by_asks u (after_wish H w.wish) ws i)
-    ∙ sym (map-append (encounter_at u) (given (is_hers u H w.wish) asked) (asks u (after_wish H w.wish) ws))
+    (λ i. one (is_wish_of u H w.wish) i ++ meets-by_asks u (after_wish H w.wish) ws i)
+    ∙ sym (map-append (encounter_at u) (given (is_wish_of u H w.wish) asked) (asks u (after_wish H w.wish) ws))
   where
     asked : Asked
     asked = record { before = H; wish = w.wish; closes = w.closes }

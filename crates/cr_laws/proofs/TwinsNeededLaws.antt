@@ -22,7 +22,7 @@ use Rattle.cr_conference.specs.HiddenPairs.{in_bids, reviewed_by}
 use Rattle.cr_conference.proofs.ConferenceProofs.{Turn, by, goes_on, reached, registered-legal, opened-legal}
 use Rattle.cr_conference.proofs.ConferenceProofs.{submitted-legal, bounded-form, ascii-review}
 use Rattle.cr_conference.proofs.HiddenPairLaws.{apart}
-use Rattle.cr_undeduced.specs.Twins.{Twins, moves, renames, first_moves, PeersInTurn, AreUntold, NoneIsHers}
+use Rattle.cr_undeduced.specs.Twins.{Twins, moves, renames, first_moves, PeersInTurn, AreUntold, MadeNone}
 use Rattle.cr_undeduced.specs.Undeducible.{was_told}
 use Rattle.cr_laws.specs.TwinsNeeded.{TwinsNeeded, reviewer_and_other, talked_of, shows_seat}
 
@@ -88,14 +88,14 @@ module _ (t : Twins) where
     abbrev hers : Stamped → Bool
     hers e = is_number u e.stamp.maker || (is_author u t.paper H && is_author (Some e.stamp.maker) t.paper H)
 
-    abbrev none_hers : History → Bool
-    none_hers [] = true
-    none_hers (e ∷ later) = (not (renames t e.entry) || not (hers e)) && none_hers later
+    abbrev none_of_user : History → Bool
+    none_of_user [] = true
+    none_of_user (e ∷ later) = (not (renames t e.entry) || not (hers e)) && none_of_user later
 
-    none-so : (later : History) → none_hers later ≡ true → NoneIsHers t u H later
+    none-so : (later : History) → none_of_user later ≡ true → MadeNone t u H later
     none-so [] h = tt
     none-so (e ∷ later) h =
-        let both = and_parts (not (renames t e.entry) || not (hers e)) (none_hers later) h in (
+        let both = and_parts (not (renames t e.entry) || not (hers e)) (none_of_user later) h in (
           λ named. or_parts (is_number u e.stamp.maker)
               (is_author u t.paper H && is_author (Some e.stamp.maker) t.paper H)
               (implied (renames t e.entry) (hers e) both.0 named),

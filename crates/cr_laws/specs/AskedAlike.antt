@@ -6,7 +6,7 @@ use Rattle.cr_base.specs.History.{History}
 use Rattle.cr_base.specs.Lists.{given}
 use Rattle.cr_wire.specs.declared.what.Wish.{Wish}
 use Rattle.cr_session.specs.Told.{after_wish}
-use Rattle.cr_session.specs.TwoRuns.{WishInTurn, Run, is_hers}
+use Rattle.cr_session.specs.TwoRuns.{WishInTurn, Run, is_wish_of}
 
 -- a wish of a user's: the history before it, the wish, and whether its connection closes after the answer
 pub record Asked : Type 0 where
@@ -18,7 +18,7 @@ pub record Asked : Type 0 where
 abbrev pub asks : Option ℕ → History → List WishInTurn → List Asked
 asks u H [] = []
 asks u H (w ∷ ws) =
-    given (is_hers u H w.wish) (record { before = H; wish = w.wish; closes = w.closes })
+    given (is_wish_of u H w.wish) (record { before = H; wish = w.wish; closes = w.closes })
     ++ asks u (after_wish H w.wish) ws
 
 -- if two histories are alike to the user when this holds

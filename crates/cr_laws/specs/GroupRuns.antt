@@ -10,11 +10,11 @@ use Rattle.cr_policy.specs.View.{view}
 use Rattle.cr_wire.specs.declared.what.Wish.{Wish}
 use Rattle.cr_wire.specs.Caller.{caller}
 use Rattle.cr_session.specs.Told.{told, after_wish}
-use Rattle.cr_session.specs.TwoRuns.{WishInTurn, Run, Encounter, is_hers, HearsAlike}
+use Rattle.cr_session.specs.TwoRuns.{WishInTurn, Run, Encounter, is_wish_of, HearsAlike}
 
 -- the wish is the group's: on the history at its turn one of the group is its caller
 abbrev pub is_theirs : List (Option ℕ) → History → Wish → Bool
-is_theirs group H w = list_any (λ u. is_hers u H w) group
+is_theirs group H w = list_any (λ u. is_wish_of u H w) group
 
 -- ---- what they meet
 

@@ -17,7 +17,7 @@ use Rattle.cr_policy.specs.ViewFacts.{is_kind, is_user}
 use Rattle.cr_conference.specs.Conference.{alice, bob, carol, dave, erin, fay, gus, hal, ivy}
 use Rattle.cr_conference.specs.Conference.{Digests, AreDigests, ◌adds◌}
 use Rattle.cr_conference.specs.HiddenPairs.{in_bids, reviewed_by}
-use Rattle.cr_undeduced.specs.Twins.{Twins, twinned, AreTwins, AreUntold, NoneIsHers, is_blind_to}
+use Rattle.cr_undeduced.specs.Twins.{Twins, twinned, AreTwins, AreUntold, MadeNone, is_blind_to}
 use Rattle.cr_undeduced.specs.Undeducible.{Look, seen_at}
 
 -- ---- the two histories
@@ -44,7 +44,7 @@ pub record IsAllButNotOther (t : Twins) (u : Option ℕ) (H : History) : Type 0 
   pub other_wrote : IsFalse (is_author (Some t.other) t.paper H)
   pub untold : AreUntold t u H [] H
   pub blind : IsTrue (is_blind_to u t.paper H)
-  pub none : NoneIsHers t u H H
+  pub none : MadeNone t u H H
 
 -- each of these sees the same of both histories at their ends
 abbrev pub SeeAlike : List (Option ℕ) → History → History → Type 0
@@ -53,7 +53,7 @@ SeeAlike (u ∷ us) H H' =
     (seen_at H (record { who = u; upto = length H }) ≡ seen_at H' (record { who = u; upto = length H' }))
     × SeeAlike us H H'
 
--- a view shows a form of paper 1 under its first label, and an assignment to it that names this user
+-- a view shows a form of paper 1 under its first label
 abbrev pub shows_form : View → Bool
 shows_form V =
     list_any (λ (s : Sighting). is_kind kinds.Reviewed s && is_number s.paper 1 && is_number s.ordinal 1) V

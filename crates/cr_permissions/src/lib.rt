@@ -24,12 +24,13 @@ ghost use Rattle.cr_permissions.specs.MayBulk.{RowsAsSaid, BulksAsSaid};
 ghost use Rattle.cr_permissions.specs.MayDo.{PermissionsAsSaid};
 ghost use Rattle.cr_permissions.specs.MayRead.{ReadingAsSaid};
 
-/// A command is accepted, and a query answered, if and only if its sentence holds (`commands`, `reading`). The
-/// sentences are over facts of a history, in a committee's words. A bulk is accepted if and only if its caller is a
-/// chair, the committee works, and the caller may do what each row asks for when its turn comes; no row is a conflict
-/// of their own (`bulks`). An accepted command adds the entries that its line says, by its actor, at its timestamp and
-/// by its number, all but the last with the mark that another follows, and is answered what its line says (`adds`).
-/// Each of the eight actions of a row asks for the command that its line says (`rows`).
+/// A command whose number is new is accepted, and a query answered, if and only if its sentence holds (`commands`,
+/// `reading`). The sentences are over facts of a history, in a committee's words. A bulk whose number is new is
+/// accepted if and only if its caller is a chair, the committee works, and the caller may do what each row asks for
+/// when its turn comes; no row is a conflict of their own (`bulks`). An accepted command adds the entries that its line
+/// says, by its actor, at its timestamp and by its number, all but the last with the mark that another follows, and is
+/// answered what its line says (`adds`). Each of the eight actions of a row asks for the command that its line says
+/// (`rows`).
 ///
 /// The sentences read no list of checks, nor what these lists read of phases, roles and accepted papers. Which rule a
 /// refusal names is left open.

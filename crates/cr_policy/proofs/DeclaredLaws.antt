@@ -18,7 +18,7 @@ use Rattle.cr_base.specs.Page.{is_clear_chair}
 use Rattle.cr_base.specs.Phases.{chairs_see_conflicts}
 use Rattle.cr_base.specs.Words.{is_chair}
 use Rattle.cr_base.proofs.Small.{and_not_or}
-use Rattle.cr_history.specs.Invariants.{is_opening, ByAuthor, ByHerselfOrOther, Early, Late, DeclaresInTime}
+use Rattle.cr_history.specs.Invariants.{is_opening, ByAuthor, ByNamedOrOther, Early, Late, DeclaresInTime}
 use Rattle.cr_policy.specs.Part as part
 use Rattle.cr_policy.specs.Sighting.{where_shown}
 use Rattle.cr_policy.specs.Triggers.{Reader, reader, Around, standing_to, user_named}
@@ -140,7 +140,7 @@ module _ (u p : ℕ) (H : History) (author : is_author (Some u) p H ≡ true) wh
       (λ same. ap (λ n. is_author (Some stamp.maker) n H) (sym (eqb-true paper p same)) ∙ h)
   early_at at stamp more e h = refl
 
-  late_at : (at : Around) (stamp : Stamp) (more : Bool) (e : Entry) → ByHerselfOrOther H stamp.maker e
+  late_at : (at : Around) (stamp : Stamp) (more : Bool) (e : Entry) → ByNamedOrOther H stamp.maker e
       → only (passes part.user r at (stamped stamp more e)) (own_or_other_told (Some u) p stamp.maker e)
       ≡ declared_told (is_author (Some stamp.maker) p H) p e
   late_at at stamp more (Conflict paper user on) h =

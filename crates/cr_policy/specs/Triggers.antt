@@ -172,7 +172,7 @@ applies see parts = record { applies = applies; parts = parts }
 abbrev pub paper_alone : Part → Bool
 paper_alone = these []
 
--- the rows for an assignment to the paper or its end, which `by` made and which names `user`
+-- the rows for an assignment to the paper, or its end, which names `user`
 abbrev pub seat_rows : Reader → ℕ → ℕ → List TriggerRow
 seat_rows r paper user =
     user_named r user see whole
@@ -184,7 +184,7 @@ seat_rows r paper user =
     ∷ (authors r paper && in_open_mode r && authors_see_reviewers r.now) see these (part.user ∷ part.ordinal ∷ [])
     ∷ []
 
--- the rows for an invitation to the paper or its end, which `by` made and which names `user`
+-- the rows for an invitation to the paper, or its end, which names `user`
 abbrev pub invite_rows : Reader → ℕ → ℕ → List TriggerRow
 invite_rows r paper user =
     user_named r user see whole

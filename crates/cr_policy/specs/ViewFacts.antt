@@ -129,7 +129,7 @@ is_kind kind s = kind_number s.kind == kind_number kind
 abbrev pub of_kind : {A : Type 0} → EntryKind → Sighting → List A → List A
 of_kind kind s xs = if is_kind kind s then xs else []
 
--- the phase, the mode that it sets
+-- the phase that the sighting sets
 abbrev pub phase_seen : Sighting → List Phase
 phase_seen s = of_kind kinds.PhaseSet s (listed s.phase)
 
@@ -167,7 +167,7 @@ abbrev pub own_or_other_seen : Option ℕ → ℕ → Sighting → List ℕ
 own_or_other_seen u p s =
     only (is_number s.paper p && (s.mine || not (is_user u s.user))) (of_kind kinds.Conflict s (listed s.user))
 
--- the user's bid on the paper; and the reader's own
+-- the user's bid on the paper
 abbrev pub bid_seen : Option ℕ → ℕ → Sighting → List ℕ
 bid_seen u p s = only (is_number s.paper p && is_user u s.by) (of_kind kinds.Bid s (listed s.value))
 
@@ -194,7 +194,7 @@ assigned_seen p s =
 abbrev pub unassigned_seen : ℕ → Sighting → List ℕ
 unassigned_seen p s = only (is_number s.paper p) (of_kind kinds.Unassigned s (listed s.ordinal))
 
--- the form that it gives the label of this ordinal; and the reader's own
+-- the form that the sighting adds under the paper's label of this ordinal
 abbrev pub form_seen : ℕ → ℕ → Sighting → List FormTold
 form_seen p o s =
     only (is_number s.paper p && is_number s.ordinal o)
@@ -210,7 +210,7 @@ own_form_seen p s =
 abbrev pub done_seen : ℕ → ℕ → Sighting → List Bool
 done_seen p o s = only (is_number s.paper p && is_number s.ordinal o) (of_kind kinds.Reviewed s (listed s.done))
 
--- the comment on the paper; and the number of the reader's own, whatever the paper
+-- the comment that the sighting adds to the paper
 abbrev pub comment_seen : ℕ → Sighting → List CommentTold
 comment_seen p s = only (is_number s.paper p) (of_kind kinds.Commented s (comment_shown s.n s.by s.ordinal s.text))
 
@@ -226,7 +226,7 @@ response_seen p s = only (is_number s.paper p) (of_kind kinds.Responded s (liste
 abbrev pub tag_seen : Option ℕ → ℕ → Sighting → List TagTold
 tag_seen u p s = only (is_number s.paper p) (of_kind kinds.Tagged s (tag_shown u s.mine s.tag s.on))
 
--- what it decides of the paper; and that the paper is accepted
+-- what the sighting decides of the paper
 abbrev pub decision_seen : ℕ → Sighting → List Decision
 decision_seen p s = only (is_number s.paper p) (of_kind kinds.Decided s (listed s.decision))
 
@@ -246,7 +246,7 @@ discussion_seen s = is_kind kinds.PhaseSet s && shows_phase committee_reads_from
 abbrev pub opening_response_seen : Sighting → Bool
 opening_response_seen s = is_kind kinds.PhaseSet s && shows_phase Response s.phase
 
--- the title, the abstract that it gives the paper
+-- the title that the sighting gives the paper
 abbrev pub title_seen : ℕ → Sighting → List (List ℕ)
 title_seen p s = only (is_number s.paper p) (text_by_kind s.kind s.title)
 
@@ -366,7 +366,7 @@ standing_in_view u paper V = record {
 
 -- ---- bids and assignments
 
--- the user's last bid on the paper that is shown; the reader's own last bid; and the last bids by user number
+-- the user's last bid on the paper that is shown
 abbrev pub bid_in_view : Option ℕ → ℕ → View → Option ℕ
 bid_in_view u p V = last (flat_map (bid_seen u p) V)
 
@@ -390,9 +390,7 @@ reviewers_in_view p V = seats_left (flat_map (unassigned_seen p) V) (seats_in_vi
 
 -- ---- reviews, responses, comments and tags
 
--- of each label's forms that are shown the last, which the paper's authors read in the end; the last before
--- the response, where it was opened, which they read before the end; and the last before the discussion and all later
--- ones, which the committee discusses
+-- the forms under the paper's label of this ordinal that are shown
 abbrev pub forms_in_view : ℕ → ℕ → View → List FormTold
 forms_in_view p o V = flat_map (form_seen p o) V
 
@@ -435,7 +433,7 @@ tags_in_view u chair p V = tags_for u chair (tags_left (flat_map (tag_seen u p) 
 
 -- ---- papers
 
--- title and abstract: the last one shown on the paper
+-- the last title of the paper that is shown
 abbrev pub title_in_view : ℕ → View → Option (List ℕ)
 title_in_view p V = last (flat_map (title_seen p) V)
 

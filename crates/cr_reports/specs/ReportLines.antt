@@ -47,10 +47,11 @@ abbrev pub one : Bool → ℕ
 one true = 1
 one false = 0
 
--- what was decided of a paper, and the line of that
+-- what was decided of a paper
 abbrev pub decided : Tables → ℕ → Option Decision
 decided t p = decision_by (facts_of_tables t None) (shown_in_tables t) p
 
+-- the line of what was decided of a paper
 abbrev pub decision_line_at : Tables → ℕ → List ℕ
 decision_line_at t p = decision_line (facts_of_tables t None) (shown_in_tables t) p
 
@@ -58,38 +59,45 @@ decision_line_at t p = decision_line (facts_of_tables t None) (shown_in_tables t
 abbrev pub counted : Tables → ℕ → (Option Decision → Bool) → ℕ → ℕ
 counted t user is_such p = one (is_open_to t user p && is_such (decided t p))
 
--- the same of what a caller sees of a paper: it is told to her; its title; its line in each report; and 1 where it is
--- told to her and its decision is such a one, else 0
+-- ---- the same, by what a caller sees of a paper
+
+-- the paper is told to the caller: they are in no conflict with it, and it isn't withdrawn
 abbrev pub is_open_seen : PaperSeen → Bool
 is_open_seen s = not s.by.conflicted && not (withdrawn_seen s)
 
+-- the paper's title; nothing if there is none
 abbrev pub titled : PaperSeen → List ℕ
 titled s = unwrap_or (title_seen s) []
 
+-- the paper's line in the report of all papers
 abbrev pub paper_line_seen : PaperSeen → List ℕ
 paper_line_seen s =
     in_four s.paper ++ space ++ paper_mark (withdrawn_seen s) s.by.conflicted ++ space ++ titled s ++ line_end
 
+-- the paper's line in the report of scores
 abbrev pub scores_line_seen : Tables → PaperSeen → List ℕ
 scores_line_seen t s = scores_line s.paper (last_scores (shown_in_tables t) s.paper) (titled s)
 
+-- the paper's line in the report of decisions
 abbrev pub decision_line_seen : PaperSeen → List ℕ
 decision_line_seen s =
     in_four s.paper ++ space ++ to_left 6 (decision_word (decision_seen s)) ++ space ++ titled s ++ line_end
 
+-- 1 if the paper is told to the caller and its decision is such a one, else 0
 abbrev pub counted_seen : (Option Decision → Bool) → PaperSeen → ℕ
 counted_seen is_such s = one (is_open_seen s && is_such (decision_seen s))
 
--- the last form under a label of a paper, for one who stands so to it
+-- the last form under a label of a paper as the letter has it, for a user of this standing
 abbrev pub forms_under : Tables → Standing → ℕ → ℕ → List ℕ
 forms_under t by p o =
     flat_map (letter_form o (label_name t (shows_reviewer by) p o))
     (listed (option_map written_told (last_form_in t.reviews p o)))
 
--- the first lines of a form: an empty one, and its label with its writer; and the line of its grades
+-- the first lines of a form: an empty one, and its label with its writer
 unfoldable pub form_heading : ℕ → Option (List ℕ) → List ℕ
 form_heading ordinal writer = line_end ++ codes "Review " ++ ((64 + ordinal) ∷ []) ++ writer_named writer ++ line_end
 
+-- the line of a form's grades
 unfoldable pub form_grades : FormTold → List ℕ
 form_grades form = codes "Score " ++ decimal form.score ++ codes ", confidence " ++ decimal form.confidence ++ line_end
 

@@ -11,7 +11,7 @@ use Rattle.cr_policy.specs.View.{view}
 use Rattle.cr_wire.specs.declared.what.Wish.{Wish}
 use Rattle.cr_wire.specs.Caller.{caller}
 use Rattle.cr_session.specs.Told.{sending_of, told, told_to, after_wish}
-use Rattle.cr_session.specs.TwoRuns.{WishInTurn, Run, Encounter, is_same, is_hers, meets, hears, MeetsAlike, HearsAlike}
+use Rattle.cr_session.specs.TwoRuns.{WishInTurn, Run, Encounter, is_same, is_wish_of, meets, hears, MeetsAlike, HearsAlike}
 
 -- what she is answered there
 answer_at : Option ℕ → Encounter → List ℕ
@@ -33,7 +33,7 @@ unfolding answer_at
 told-at u v H w closes e = ap (λ x. told_to x (view x H) w.at (sending_of w closes) w.what) e
 
 -- one wish, where it is hers
-answered : (u : Option ℕ) (H : History) (w : Wish) (closes : Bool) (b : Bool) → is_hers u H w ≡ b
+answered : (u : Option ℕ) (H : History) (w : Wish) (closes : Bool) (b : Bool) → is_wish_of u H w ≡ b
     → given b (told H w closes) ≡ map (answer_at u) (given b (record { seen = view u H; wish = w; closes = closes }))
 unfolding told
 answered u H w closes true e =
@@ -45,13 +45,13 @@ hears-by_meets : (u : Option ℕ) (H : History) (ws : List WishInTurn) → hears
 hears-by_meets u H [] = refl
 hears-by_meets u H (w ∷ ws) =
     ap (λ (texts : List (List ℕ)). texts ++ hears u (after_wish H w.wish) ws)
-    (answered u H w.wish w.closes (is_hers u H w.wish) refl)
+    (answered u H w.wish w.closes (is_wish_of u H w.wish) refl)
     ∙ ap (λ (texts : List (List ℕ)). map (answer_at u) (encounter w) ++ texts)
     (hears-by_meets u (after_wish H w.wish) ws)
     ∙ sym (map-append (answer_at u) (encounter w) (meets u (after_wish H w.wish) ws))
   where
     encounter : WishInTurn → List Encounter
-    encounter b = given (is_hers u H b.wish) (record { seen = view u H; wish = b.wish; closes = b.closes })
+    encounter b = given (is_wish_of u H b.wish) (record { seen = view u H; wish = b.wish; closes = b.closes })
 
 pub two_runs : (u : Option ℕ) (one other : Run) → MeetsAlike u one other → HearsAlike u one other
 two_runs u one other e =

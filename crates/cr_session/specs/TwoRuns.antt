@@ -36,20 +36,20 @@ is_same (Some m) None = false
 is_same (Some m) (Some n) = m == n
 
 -- the wish is this user's: on the history at its turn the user is its caller
-abbrev pub is_hers : Option ℕ → History → Wish → Bool
-is_hers u H w = is_same u (caller H w)
+abbrev pub is_wish_of : Option ℕ → History → Wish → Bool
+is_wish_of u H w = is_same u (caller H w)
 
 -- what the user meets at each of the user's wishes, from this history on
 abbrev pub meets : Option ℕ → History → List WishInTurn → List Encounter
 meets u H [] = []
 meets u H (w ∷ ws) =
-    given (is_hers u H w.wish) (record { seen = view u H; wish = w.wish; closes = w.closes })
+    given (is_wish_of u H w.wish) (record { seen = view u H; wish = w.wish; closes = w.closes })
     ++ meets u (after_wish H w.wish) ws
 
 -- what the user is answered to each of the user's wishes, from this history on
 abbrev pub hears : Option ℕ → History → List WishInTurn → List (List ℕ)
 hears u H [] = []
-hears u H (w ∷ ws) = given (is_hers u H w.wish) (told H w.wish w.closes) ++ hears u (after_wish H w.wish) ws
+hears u H (w ∷ ws) = given (is_wish_of u H w.wish) (told H w.wish w.closes) ++ hears u (after_wish H w.wish) ws
 
 -- the two runs agree in what the user meets
 abbrev pub MeetsAlike : Option ℕ → Run → Run → Type 0

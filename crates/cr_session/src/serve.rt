@@ -289,10 +289,10 @@ fn serve_next_request<R: Wait, K: Keeper, S: Source, O: Sink, C: Clock>(
 /// judged, and behind one that closes no byte is read. A request for whose answer the clock failed isn't judged, and
 /// nothing is written for it.
 ///
-/// `OutOfMemory` comes for lack of memory alone. The room for answers is made at the beginning: where it
-/// can't be had, the connection ends before anything is read. Later, memory may run out for more bytes,
-/// for reading a body, a search or a plan, for an accepted command or bulk, and for a query that isn't refused, or
-/// refused since there is no plan, and for nothing else.
+/// `OutOfMemory` stands for a lack of memory; no clause says when memory lacks. The room for answers is made at the
+/// beginning: where it can't be had, the connection ends before anything is read. Later, memory may run out for more
+/// bytes, for reading a body, a search or a plan, for an accepted command or bulk, and for a query that isn't refused,
+/// or refused since there is no plan, and for nothing else.
 pub fn serve_connection<R: Wait, K: Keeper, S: Source, O: Sink, C: Clock>(
     server: &Server<'_, R, K>,
     pass: &mut Pass<Book<K>>,

@@ -58,7 +58,7 @@ use Rattle.cr_policy.proofs.StandingLaws.{papers-seen, standing_from_view}
 use Rattle.cr_policy.proofs.Walk.{only-true, only-false, map-flat_map, filter-flat_map}
 use Rattle.cr_bounds.specs.ShownTo.{is_on_committee, chairs_committee, is_past_submission, is_past_reviewing}
 use Rattle.cr_bounds.specs.ShownTo.{is_past_discussion, hides_reviewers, names_reviewers, knows_writers, is_eligible}
-use Rattle.cr_bounds.specs.ShownTo.{has_before_her, oversees, administers, discusses, is_answered, appears}
+use Rattle.cr_bounds.specs.ShownTo.{reads_to_judge, oversees, administers, discusses, is_answered, appears}
 use Rattle.cr_bounds.specs.ShownTo.{where_known}
 use Rattle.cr_bounds.proofs.BoundsWords.{phase-words, mode-words}
 use Rattle.cr_bounds.proofs.BoundsWalk.{shown_to}
@@ -586,7 +586,7 @@ module _ (u : Option ℕ) (p : ℕ) (H : History) (there : IsSubmitted H p) (ord
   reads-it : ((((is_author u p H || is_published (phase_of H) (is_accepted p H)) || is_admitted stands)
       && not (not (is_author u p H || is_published (phase_of H) (is_accepted p H)) && is_conflicted u p H))
       && ((is_author u p H || is_published (phase_of H) (is_accepted p H)) || members_see_papers (phase_of H)))
-      ≡ (is_author u p H || (has_before_her u p H || appears p H))
+      ≡ (is_author u p H || (reads_to_judge u p H || appears p H))
   reads-it =
       to (is_member (role_of u H)) _ (is_external u p H) _ (is_from Bidding (phase_of H)) _ (is_author u p H)
       (is_conflicted u p H) (is_published (phase_of H) (is_accepted p H)) _
@@ -599,7 +599,7 @@ module _ (u : Option ℕ) (p : ℕ) (H : History) (there : IsSubmitted H p) (ord
 
   content-told : (version : Option ℕ) (shown : Option (List ℕ))
       → option_map (λ (upload : Upload). upload.content) (upload_of version (uploads_in_view p V)) ≡ shown
-      → ((is_author u p H || (has_before_her u p H || appears p H)) ≡ false → shown ≡ None)
+      → ((is_author u p H || (reads_to_judge u p H || appears p H)) ≡ false → shown ≡ None)
       → content_answered (reply_or_rule (judged (content_asked (facts_in_view u V) (shown_in_view u V) (Some p) version)
       (replies.Content (unwrap_or (content_by (facts_in_view u V) (shown_in_view u V) (Some p) version) []))))
       ≡ shown
@@ -619,7 +619,7 @@ module _ (u : Option ℕ) (p : ℕ) (H : History) (there : IsSubmitted H p) (ord
       (not (reads_freely stands (is_accepted p H)) && is_conflicted u p H)
       (reads_freely stands (is_accepted p H) || members_see_papers (phase_of H)) shown is-there
       ∙ ap (λ b. where_told b shown) reads-it
-      ∙ free (is_author u p H || (has_before_her u p H || appears p H)) shown none
+      ∙ free (is_author u p H || (reads_to_judge u p H || appears p H)) shown none
     where
       found : content_by (facts_in_view u V) (shown_in_view u V) (Some p) version ≡ shown
       found =
@@ -689,9 +689,9 @@ module _ (u : Option ℕ) (p : ℕ) (H : History) (there : IsSubmitted H p) (ord
       one before later stamp (Uploaded paper version content) = both (eqb paper p) _ version content
       one before later stamp e = refl
 
-  hidden-uploads : (is_author u p H || (has_before_her u p H || appears p H)) ≡ false → uploads_in_view p V ≡ []
-  hidden-uploads h = uploads-none u p H order (or_parts (is_author u p H) (has_before_her u p H || appears p H) h).0
-      (or_parts (is_author u p H) (has_before_her u p H || appears p H) h).1
+  hidden-uploads : (is_author u p H || (reads_to_judge u p H || appears p H)) ≡ false → uploads_in_view p V ≡ []
+  hidden-uploads h = uploads-none u p H order (or_parts (is_author u p H) (reads_to_judge u p H || appears p H) h).0
+      (or_parts (is_author u p H) (reads_to_judge u p H || appears p H) h).1
 
   pub contents-told : ContentTold u p H
   contents-told = record {

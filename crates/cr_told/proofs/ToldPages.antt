@@ -50,7 +50,7 @@ use Rattle.cr_policy.proofs.ReviewerTells.{same_key}
 use Rattle.cr_policy.proofs.StandingLaws.{papers-seen, standing_from_view, seat-seen}
 use Rattle.cr_policy.proofs.Walk.{is_nothing-append, map-flat_map}
 use Rattle.cr_bounds.specs.ShownTo.{is_on_committee, is_past_submission, hides_authors, has_conflict, visits}
-use Rattle.cr_bounds.specs.ShownTo.{reads_visiting, has_before_her, is_told, serves, is_eligible, oversees, discusses}
+use Rattle.cr_bounds.specs.ShownTo.{reads_visiting, reads_to_judge, is_told, serves, is_eligible, oversees, discusses}
 use Rattle.cr_bounds.specs.ShownTo.{is_notified, is_in_programme, appears, where_known}
 use Rattle.cr_bounds.specs.ViewBounds.{part_shown}
 use Rattle.cr_bounds.proofs.BoundsWords.{phase-words, mode-words}
@@ -160,7 +160,7 @@ module _ (u : Option ℕ) (p : ℕ) (H : History) (there : IsSubmitted H p) (ord
       to m m' e e' b b' a c o hm he hb = grind (arith, hm, he, hb)
 
   abstracted : (may stands accepted && gets_abstract stands accepted)
-      ≡ (author || (has_before_her u p H || is_published (phase_of H) accepted))
+      ≡ (author || (reads_to_judge u p H || is_published (phase_of H) accepted))
   abstracted =
       to (is_member (role_of u H)) _ external _ (is_from Bidding (phase_of H)) _ author (is_conflicted u p H) accepted
       (is_from Closed (phase_of H))
@@ -172,7 +172,7 @@ module _ (u : Option ℕ) (p : ℕ) (H : History) (there : IsSubmitted H p) (ord
       to m m' e e' b b' a c o x hm he hb = grind (arith, hm, he, hb)
 
   authored : (may stands accepted && shows_author stands accepted)
-      ≡ (author || oversees u p H || (has_before_her u p H && not (hides_authors (mode_of H))) || accepted)
+      ≡ (author || oversees u p H || (reads_to_judge u p H && not (hides_authors (mode_of H))) || accepted)
   authored =
       to (is_member (role_of u H)) _ external _ (is_chair (role_of u H)) _ (is_from Bidding (phase_of H)) _
       (is_anonymous (mode_of H)) _ author (is_conflicted u p H)
@@ -360,16 +360,16 @@ module _ (u : Option ℕ) (p : ℕ) (H : History) (there : IsSubmitted H p) (ord
 
   -- who is told of the abstract
   abbrev pub reads_it : Bool
-  reads_it = author || (has_before_her u p H || is_published (phase_of H) accepted)
+  reads_it = author || (reads_to_judge u p H || is_published (phase_of H) accepted)
 
   pub public : is_published (phase_of H) accepted ≡ appears p H
   public = λ i. programme i && (phase-words (phase_of H)).closed i
 
   no-abstract : reads_it ≡ false → abstract_in_view p V ≡ None
   no-abstract h =
-      let parts = or_parts author (has_before_her u p H || is_published (phase_of H) accepted) h in
+      let parts = or_parts author (reads_to_judge u p H || is_published (phase_of H) accepted) h in
       ap last (reads.abstracts u p H ∙ abstracts-none u p H order parts.0
-      (ap (λ b. has_before_her u p H || b) (sym public) ∙ parts.1))
+      (ap (λ b. reads_to_judge u p H || b) (sym public) ∙ parts.1))
 
   abstract-told : page_told (λ page. page.abstract_) u p H ≡ last (shown_on p (λ (s : Sighting). s.abstract) V)
   abstract-told =
@@ -402,14 +402,14 @@ module _ (u : Option ℕ) (p : ℕ) (H : History) (there : IsSubmitted H p) (ord
       ∙ submitted (λ (e : Stamped). author_told p e.stamp.maker e.entry)
       (λ stamp more title abstract. ap (λ b. is_nothing (given b stamp.maker)) (eq-eqb p p refl)))
       (λ isnt. writers-none u p H order (stranger isnt)
-      (ap (λ b. author || oversees u p H || (has_before_her u p H && not (hides_authors (mode_of H))) || b)
+      (ap (λ b. author || oversees u p H || (reads_to_judge u p H && not (hides_authors (mode_of H))) || b)
       (sym programme) ∙ isnt))
     where
       said : Bool
-      said = author || oversees u p H || (has_before_her u p H && not (hides_authors (mode_of H))) || accepted
+      said = author || oversees u p H || (reads_to_judge u p H && not (hides_authors (mode_of H))) || accepted
 
       stranger : said ≡ false → author ≡ false
-      stranger = by author (oversees u p H) (has_before_her u p H && not (hides_authors (mode_of H))) accepted
+      stranger = by author (oversees u p H) (reads_to_judge u p H && not (hides_authors (mode_of H))) accepted
         where
           by : (a o h x : Bool) → (a || o || h || x) ≡ false → a ≡ false
           by true o h x is = is

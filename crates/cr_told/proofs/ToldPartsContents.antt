@@ -27,7 +27,7 @@ use Rattle.cr_policy.specs.View.{View, view}
 use Rattle.cr_policy.specs.ViewFacts.{only, is_kind}
 use Rattle.cr_policy.proofs.LegalLaws.{legal_invariants}
 use Rattle.cr_policy.proofs.Walk.{only-false}
-use Rattle.cr_bounds.specs.ShownTo.{where_known, has_before_her, appears, owns, is_superseded, is_told, each_told}
+use Rattle.cr_bounds.specs.ShownTo.{where_known, reads_to_judge, appears, owns, is_superseded, is_told, each_told}
 use Rattle.cr_bounds.proofs.BoundsWalk.{shown_to, view-told}
 use Rattle.cr_told.specs.ToldPages.{page_told, shown_by}
 use Rattle.cr_told.specs.ToldLists.{contents_of, content_answered, first_of}
@@ -51,7 +51,7 @@ module _ (u : Option ℕ) (p : ℕ) (H : History) where
   next-number before stamp more (Uploaded paper version content) later k next few =
       by (eqb paper p) refl (eqb version k) refl
       (owns u H stamp.maker paper || (not (is_superseded paper later)
-      && (has_before_her u paper H || appears paper H)))
+      && (reads_to_judge u paper H || appears paper H)))
     where
       by : (same : Bool) → eqb paper p ≡ same → (this : Bool) → eqb version k ≡ this → (shown : Bool)
           → only (same && is_number (where_known shown version) k) (listed (where_known shown content)) ≡ []
@@ -101,7 +101,7 @@ module _ (u : Option ℕ) (p : ℕ) (H : History) where
   number-told before stamp more (Uploaded paper version content) later k next some =
       by (eqb paper p) refl (eqb version k) refl
       (owns u H stamp.maker paper || (not (is_superseded paper later)
-      && (has_before_her u paper H || appears paper H))) some
+      && (reads_to_judge u paper H || appears paper H))) some
     where
       grown : uploads_of p (before ++ stamped stamp more (Uploaded paper version content) ∷ [])
           ≡ uploads_of p before ++ (given (eqb paper p) (record { version = version; content = content }) ++ [])
@@ -214,15 +214,15 @@ module _ (u : Option ℕ) (H : History) (legal : Legal H) (before after : View) 
       abbrev sees : Bool
       sees =
           owns u H stamp.maker paper || (not (is_superseded paper later)
-          && (has_before_her u paper H || appears paper H))
+          && (reads_to_judge u paper H || appears paper H))
 
       -- and reads the paper
       reads : reads_it u paper H there (legal_invariants H legal).in_order ≡ true
       reads =
-          ap (λ b. is_author u paper H || (has_before_her u paper H || b))
+          ap (λ b. is_author u paper H || (reads_to_judge u paper H || b))
           (public u paper H there (legal_invariants H legal).in_order)
           ∙ by (is_number u stamp.maker) (is_author u paper H) (not (is_superseded paper later))
-          (has_before_her u paper H || appears paper H) told
+          (reads_to_judge u paper H || appears paper H) told
           (own-so (λ v. is_author v paper H) u stamp.maker wrote)
         where
           by : (m a x r : Bool) → ((m || a) || (x && r)) ≡ true → (not m || a) ≡ true → (a || r) ≡ true

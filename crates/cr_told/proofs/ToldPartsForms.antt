@@ -49,7 +49,7 @@ use Rattle.cr_policy.proofs.StandingLaws.{seat-seen}
 use Rattle.cr_policy.proofs.Walk.{is_nothing-append}
 use Rattle.cr_bounds.specs.ShownTo.{administers, chairs_committee, oversees, is_on_committee, is_past_submission}
 use Rattle.cr_bounds.specs.ShownTo.{has_conflict, counts_form}
-use Rattle.cr_bounds.specs.ShownTo.{is_told, where_known, is_eligible, serves, visits, has_before_her, discusses}
+use Rattle.cr_bounds.specs.ShownTo.{is_told, where_known, is_eligible, serves, visits, reads_to_judge, discusses}
 use Rattle.cr_bounds.specs.ShownTo.{is_notified, is_past_reviewing, reads_review, reads_form, learns_form}
 use Rattle.cr_bounds.specs.ShownTo.{is_discussed}
 use Rattle.cr_bounds.specs.ShownTo.{is_reviewed, is_past_discussion, is_response_or_later, is_author_since_response}
@@ -297,9 +297,9 @@ module _ (u : Option ℕ) (H : History) (legal : Legal H) (before after : View) 
             Goal =
                 IsTrue
                 (has_line u H s T || (is_followed u H s after
-                || (is_number u stamp.maker && not (has_before_her u paper H))))
+                || (is_number u stamp.maker && not (reads_to_judge u paper H))))
 
-            behind : is_number u stamp.maker ≡ true → has_before_her u paper H ≡ false → Goal
+            behind : is_number u stamp.maker ≡ true → reads_to_judge u paper H ≡ false → Goal
             behind m h = or_right (has_line u H s T) _ (or_right (is_followed u H s after) _ (λ i. m i && not (h i)))
 
             -- of the label the last that is shown among these
@@ -456,10 +456,10 @@ module _ (u : Option ℕ) (H : History) (legal : Legal H) (before after : View) 
                     ∙ ap (λ w. ordinal_of w paper H) (number-is u stamp.maker m) ∙ held
 
             form-told : Goal
-            form-told = by (is_author u paper H) refl (discusses u paper H) refl (has_before_her u paper H) refl
+            form-told = by (is_author u paper H) refl (discusses u paper H) refl (reads_to_judge u paper H) refl
                 (is_number u stamp.maker) refl
               where
-                outside : is_author u paper H ≡ true → has_before_her u paper H ≡ false
+                outside : is_author u paper H ≡ true → reads_to_judge u paper H ≡ false
                 outside a =
                     (λ i. (serves u H && not (a i || is_conflict_on u paper H))
                     || (visits u paper H && not (a i || is_conflict_on u paper H) && is_past_submission (phase_of H)))
@@ -507,7 +507,7 @@ module _ (u : Option ℕ) (H : History) (legal : Legal H) (before after : View) 
                 answered-to x f y o v s c p r w m h d hr hm hw = grind (arith, h, d, hr, hm, hw)
 
                 by : (a : Bool) → is_author u paper H ≡ a → (d : Bool) → discusses u paper H ≡ d → (h : Bool)
-                    → has_before_her u paper H ≡ h → (m : Bool)
+                    → reads_to_judge u paper H ≡ h → (m : Bool)
                     → is_number u stamp.maker ≡ m → Goal
                 by true a d e h f true g = behind g (outside a)
                 by true a d e h f false g =

@@ -28,7 +28,7 @@ use Rattle.cr_policy.specs.ViewFacts.{only, is_kind, is_user, papers_in_view}
 use Rattle.cr_policy.proofs.StandingLaws.{papers-seen}
 use Rattle.cr_policy.proofs.Walk.{only-true, only-false}
 use Rattle.cr_bounds.specs.ShownTo.{is_told, is_on_committee, chairs_committee, is_past_submission, is_past_reviewing}
-use Rattle.cr_bounds.specs.ShownTo.{has_conflict, hides_reviewers, where_known, is_eligible, visits, has_before_her}
+use Rattle.cr_bounds.specs.ShownTo.{has_conflict, hides_reviewers, where_known, is_eligible, visits, reads_to_judge}
 use Rattle.cr_bounds.specs.ShownTo.{oversees, administers, discusses, is_party, is_answered}
 use Rattle.cr_bounds.proofs.BoundsWords.{phase-words}
 use Rattle.cr_bounds.proofs.BoundsWalk.{shown_to}
@@ -184,7 +184,7 @@ module _ (u : Option ℕ) (H : History) (legal : Legal H) (before after : View) 
           by true answered true stays =
               or_left _ _ (or_left _ _ (reviewer-line (λ r. eqb o r.label) answered stays (eq-eqb o o refl)))
           by r e false gone = or_right _ _ (or_left _ _ (or_left _ _ (ap not gone)))
-          by false none true stays = handled n refl (has_before_her u paper H) refl
+          by false none true stays = handled n refl (reads_to_judge u paper H) refl
             where
               label-same : Bool
               label-same = agree nat_eq (Some o) (page_told (λ page. page.label) u paper H)
@@ -216,17 +216,17 @@ module _ (u : Option ℕ) (H : History) (legal : Legal H) (before after : View) 
                   → ((x || (u && a)) || ((t || (u && g)) || c)) ≡ true
               pick x u a t g c hu h = grind (arith, hu, h)
 
-              handled : (mine : Bool) → n ≡ mine → (h : Bool) → has_before_her u paper H ≡ h
+              handled : (mine : Bool) → n ≡ mine → (h : Bool) → reads_to_judge u paper H ≡ h
                   → IsTrue (is_part_told u H s kinds.Assigned part.ordinal || is_left_untold u H s after kinds.Assigned
                   part.ordinal)
               handled false f h e =
                   other (lined || (is_user u s.user && label-same)) (is_taken_off u H s || (is_user u s.user && again))
-                  m n onc begun c lead past a (is_user u s.user) (has_before_her u paper H) told none f hs hl
+                  m n onc begun c lead past a (is_user u s.user) (reads_to_judge u paper H) told none f hs hl
                   (not-hers f)
               handled true f false e =
                   behind (lined || (is_user u s.user && label-same)) (is_taken_off u H s || (is_user u s.user && again))
                   m (oversees u paper H || discusses u paper H) a
-                  (is_user u s.user) (has_before_her u paper H) none (n-names f) e
+                  (is_user u s.user) (reads_to_judge u paper H) none (n-names f) e
               handled true f true e =
                   pick lined (is_user u s.user) label-same (is_taken_off u H s) again (is_label_behind u H s)
                   (n-names f)

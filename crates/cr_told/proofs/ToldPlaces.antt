@@ -31,7 +31,7 @@ use Rattle.cr_policy.specs.ViewFacts.{is_user}
 use Rattle.cr_policy.proofs.DecisionTells.{accepted-seen}
 use Rattle.cr_policy.proofs.LegalLaws.{legal_invariants}
 use Rattle.cr_bounds.specs.ShownTo.{is_on_committee, chairs_committee, is_past_submission, is_past_reviewing}
-use Rattle.cr_bounds.specs.ShownTo.{has_conflict, serves, is_eligible, visits, reads_visiting, has_before_her}
+use Rattle.cr_bounds.specs.ShownTo.{has_conflict, serves, is_eligible, visits, reads_visiting, reads_to_judge}
 use Rattle.cr_bounds.specs.ShownTo.{oversees}
 use Rattle.cr_bounds.specs.ShownTo.{discusses, is_party, is_answered, is_notified, is_author_since_response}
 use Rattle.cr_bounds.specs.ShownTo.{is_responded_to, is_in_programme, is_told, where_known, is_committees, is_chairs}
@@ -352,9 +352,9 @@ module _ (u : Option ℕ) (H : History) (legal : Legal H) where
   each p before later stamp more (Reviewed paper ordinal version form) whole is told same =
       at paper p
       (λ n. has_reviews u n H || has_key (λ page. page.reviewers) u n H
-      || (is_number u stamp.maker && not (has_before_her u n H))) same
+      || (is_number u stamp.maker && not (reads_to_judge u n H))) same
       ((λ i. reviews-key paper is.0 i || reviewers-key paper is.0 i
-      || (is_number u stamp.maker && not (has_before_her u paper H)))
+      || (is_number u stamp.maker && not (reads_to_judge u paper H)))
       ∙ by (is_number u stamp.maker) onc (visits u paper H) (is_past_submission (phase_of H)) (has_conflict u paper H)
       lead (is_past_reviewing (phase_of H)) (is_reviewing_now (phase_of H))
       (is_reviewer u paper H) (is_discussed paper ordinal before later) (not (is_reviewed paper ordinal before))

@@ -46,7 +46,7 @@ use Rattle.cr_bounds.specs.ShownTo.{where_known}
 use Rattle.cr_bounds.proofs.BoundsWords.{phase-words}
 use Rattle.cr_bounds.proofs.BoundsWalk.{shown_to}
 use Rattle.cr_told.specs.ToldLists.{name_shown, is_shown_done, knows_reviewers}
-use Rattle.cr_told.specs.ToldReports.{report_answered, is_hers_or_in_conflict, decision_shown, papers_clear}
+use Rattle.cr_told.specs.ToldReports.{report_answered, is_own_or_in_conflict, decision_shown, papers_clear}
 use Rattle.cr_told.specs.ToldReports.{papers_open, papers_text, scores_shown, scores_text, load_text, decisions_text}
 use Rattle.cr_told.specs.ToldReports.{ReportsTold, LettersTold}
 use Rattle.cr_told.specs.ToldReviews.{forms_listed}
@@ -97,7 +97,7 @@ module _ (u : Option ℕ) (H : History) where
 
   -- ---- what the view shows of a paper
 
-  pub conflicted : (p : ℕ) → is_conflicted_in_view u p V ≡ is_hers_or_in_conflict u p V
+  pub conflicted : (p : ℕ) → is_conflicted_in_view u p V ≡ is_own_or_in_conflict u p V
   conflicted p = λ i. list_any (is_number u) (reads.writers u p H i) || reads.in_conflict u p H u i
 
   decided : (p : ℕ) → (if F.accepted p then Some Accept else S.decision p) ≡ decision_shown p V

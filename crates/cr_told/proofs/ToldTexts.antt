@@ -18,7 +18,7 @@ use Rattle.cr_history.specs.Invariants.{IsInOrder, InTurn}
 use Rattle.cr_policy.specs.Sighting.{Sighting}
 use Rattle.cr_policy.specs.View.{view}
 use Rattle.cr_policy.specs.ViewFacts.{only, upload_shown, upload_seen, uploads_in_view, response_seen}
-use Rattle.cr_bounds.specs.ShownTo.{serves, reads_visiting, has_before_her, oversees, discusses, hides_authors}
+use Rattle.cr_bounds.specs.ShownTo.{serves, reads_visiting, reads_to_judge, oversees, discusses, hides_authors}
 use Rattle.cr_bounds.specs.ShownTo.{is_in_programme, appears, is_told, where_known, is_replaced, is_superseded}
 use Rattle.cr_bounds.proofs.BoundsWalk.{shown_to, all-view}
 use Rattle.cr_told.specs.ToldPages.{shown_on, writers_shown, writer_by}
@@ -90,12 +90,12 @@ module _ (u : Option ℕ) (p : ℕ) (H : History) (order : InTurn IsInOrder [] H
           right)
       each before later stamp more e right told = refl
 
-  pub abstracts-none : is_author u p H ≡ false → (has_before_her u p H || appears p H) ≡ false
+  pub abstracts-none : is_author u p H ≡ false → (reads_to_judge u p H || appears p H) ≡ false
       → shown_on p (λ (s : Sighting). s.abstract) (view u H) ≡ []
   abstracts-none stranger hidden = none-shown (λ (s : Sighting). only (is_number s.paper p) (listed s.abstract)) each
     where
       may : ℕ → Bool
-      may n = has_before_her u n H || appears n H
+      may n = reads_to_judge u n H || appears n H
 
       each : Each (λ (s : Sighting). only (is_number s.paper p) (listed s.abstract))
       each before later stamp more (Submitted paper title abstract) right told =
@@ -105,12 +105,12 @@ module _ (u : Option ℕ) (p : ℕ) (H : History) (order : InTurn IsInOrder [] H
           right)
       each before later stamp more e right told = refl
 
-  pub uploads-none : is_author u p H ≡ false → (has_before_her u p H || appears p H) ≡ false
+  pub uploads-none : is_author u p H ≡ false → (reads_to_judge u p H || appears p H) ≡ false
       → uploads_in_view p (view u H) ≡ []
   uploads-none stranger hidden = none-shown (upload_seen p) each
     where
       may : ℕ → Bool
-      may n = has_before_her u n H || appears n H
+      may n = reads_to_judge u n H || appears n H
 
       neither : (same known : Bool) (version : ℕ) (content : List ℕ) → (same ≡ true → known ≡ false)
           → only same (upload_shown (where_known known version) (where_known known content)) ≡ []
@@ -141,7 +141,7 @@ module _ (u : Option ℕ) (p : ℕ) (H : History) (order : InTurn IsInOrder [] H
 
   -- who is told of an author
   abbrev pub knows_authors : ℕ → Bool
-  knows_authors n = is_author u n H || oversees u n H || (has_before_her u n H && not (hides_authors (mode_of H)))
+  knows_authors n = is_author u n H || oversees u n H || (reads_to_judge u n H && not (hides_authors (mode_of H)))
       || is_in_programme n H
 
   pub writers-none : is_author u p H ≡ false → knows_authors p ≡ false → writers_shown p (view u H) ≡ []
@@ -157,7 +157,7 @@ module _ (u : Option ℕ) (p : ℕ) (H : History) (order : InTurn IsInOrder [] H
       each before later stamp more (Coauthor paper user) right told =
           untold (eqb paper p) _ user told
           (λ same. ap (λ b. b || is_author u paper H || oversees u paper H
-          || (has_before_her u paper H && not (hides_authors (mode_of H))) || is_in_programme paper H)
+          || (reads_to_judge u paper H && not (hides_authors (mode_of H))) || is_in_programme paper H)
           (not-own H u paper stamp.maker right (ap (λ n. is_author u n H) (eqb-true paper p same) ∙ stranger))
           ∙ known paper same)
       each before later stamp more e right told = refl

@@ -37,7 +37,7 @@ use Rattle.cr_policy.specs.Part.{Part}
 use Rattle.cr_policy.specs.Sighting.{Sighting}
 use Rattle.cr_policy.specs.View.{View, view}
 use Rattle.cr_policy.specs.ViewFacts.{only, is_user, is_kind, discussion_seen}
-use Rattle.cr_bounds.specs.ShownTo.{is_on_committee, chairs_committee, is_chairs, has_before_her}
+use Rattle.cr_bounds.specs.ShownTo.{is_on_committee, chairs_committee, is_chairs, reads_to_judge}
 use Rattle.cr_told.specs.ToldPages.{shown_on, page_told, shown_of}
 use Rattle.cr_told.specs.ToldPages.{bids_shown_of, own_bids_shown, ordinal_by, invitation_by, is_shown_accepted}
 use Rattle.cr_told.specs.ToldLists.{name_shown, is_left, knows_reviewers, comments_answered, response_answered}
@@ -315,7 +315,7 @@ is_name_behind u H s = s.mine && not (is_user u s.user) && not (knows_reviewers 
 -- whose page tells them their label
 abbrev pub is_label_behind : Option ℕ → History → Sighting → Bool
 is_label_behind u H s =
-    is_seat_behind u (paper_of s) H s && not (is_user u s.user && has_before_her u (paper_of s) H)
+    is_seat_behind u (paper_of s) H s && not (is_user u s.user && reads_to_judge u (paper_of s) H)
 
 -- a later sighting invites the reader to the paper again, or ends the invitation
 abbrev pub is_uninvited : Option ℕ → Sighting → View → Bool

@@ -15,7 +15,7 @@ use Rattle.cr_policy.specs.Legal.{Legal}
 use Rattle.cr_policy.specs.Sighting.{Sighting}
 use Rattle.cr_policy.specs.View.{view}
 use Rattle.cr_policy.specs.ViewFacts.{is_user}
-use Rattle.cr_bounds.specs.ShownTo.{is_eligible, has_before_her, oversees, discusses}
+use Rattle.cr_bounds.specs.ShownTo.{is_eligible, reads_to_judge, oversees, discusses}
 use Rattle.cr_told.specs.ToldPages.{page_told}
 use Rattle.cr_told.specs.ToldLists.{comments_answered, response_answered}
 use Rattle.cr_told.specs.ToldReviews.{reviews_answered}
@@ -53,7 +53,7 @@ is_seat_behind u p H s = (s.mine || is_user u s.user) && not (oversees u p H || 
 
 -- the sighting is the reader's own form, on a paper that the reader may no longer read to judge it
 abbrev pub is_form_behind : Option ℕ → ℕ → History → Sighting → Bool
-is_form_behind u p H s = s.mine && not (has_before_her u p H)
+is_form_behind u p H s = s.mine && not (reads_to_judge u p H)
 
 -- a sighting of this kind on the paper has its place. Those of a submission, a co-author, a revision and an upload are
 -- the title, the abstract, the authors and the versions, which are on the page if and only if the view shows them.

@@ -48,8 +48,8 @@ abbrev pub title_shown : ℕ → View → List ℕ
 title_shown p V = unwrap_or (last (shown_on p (λ (s : Sighting). s.title) V)) []
 
 -- the reader is shown to be an author of the paper, or in conflict with it
-abbrev pub is_hers_or_in_conflict : Option ℕ → ℕ → View → Bool
-is_hers_or_in_conflict u p V = list_any (is_number u) (writers_shown p V) || is_shown_in_conflict u p V
+abbrev pub is_own_or_in_conflict : Option ℕ → ℕ → View → Bool
+is_own_or_in_conflict u p V = list_any (is_number u) (writers_shown p V) || is_shown_in_conflict u p V
 
 -- the decision on the paper that is shown: to accept it, if it is shown to be accepted; else the last
 abbrev pub decision_shown : ℕ → View → Option Decision
@@ -57,7 +57,7 @@ decision_shown p V = if is_shown_accepted p V then Some Accept else last (shown_
 
 -- the papers with which the reader is in no conflict
 abbrev pub papers_clear : Option ℕ → View → List ℕ
-papers_clear u V = filter (λ (p : ℕ). not (is_hers_or_in_conflict u p V)) (papers_in_view V)
+papers_clear u V = filter (λ (p : ℕ). not (is_own_or_in_conflict u p V)) (papers_in_view V)
 
 -- those of these papers that aren't shown to be withdrawn
 abbrev pub papers_open : Option ℕ → View → List ℕ
@@ -69,7 +69,7 @@ papers_open u V = filter (λ (p : ℕ). not (is_shown kinds.Withdrawn p V)) (pap
 abbrev pub papers_text : Option ℕ → View → List ℕ
 papers_text u V =
     flat_map
-    (λ (p : ℕ). in_four p ++ space ++ paper_mark (is_shown kinds.Withdrawn p V) (is_hers_or_in_conflict u p V)
+    (λ (p : ℕ). in_four p ++ space ++ paper_mark (is_shown kinds.Withdrawn p V) (is_own_or_in_conflict u p V)
     ++ space ++ title_shown p V ++ line_end)
     (papers_in_view V)
     ++ papers_end (length (papers_in_view V))

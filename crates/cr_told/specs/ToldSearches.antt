@@ -15,7 +15,7 @@ use Rattle.cr_policy.specs.View.{view}
 use Rattle.cr_policy.specs.ViewFacts.{papers_in_view}
 use Rattle.cr_told.specs.ToldPages.{page_answered, is_shown_accepted}
 use Rattle.cr_told.specs.ToldLists.{comments_answered, response_answered}
-use Rattle.cr_told.specs.ToldReports.{is_hers_or_in_conflict}
+use Rattle.cr_told.specs.ToldReports.{is_own_or_in_conflict}
 use Rattle.cr_told.specs.ToldReviews.{reviews_answered}
 
 -- a page without a key, in place of one that isn't answered
@@ -44,7 +44,7 @@ abbrev pub told_in_answers : Option ℕ → History → ℕ → PaperTold
 told_in_answers u H p = record {
   page = unwrap_or (page_answered (answer u (view u H) (queries.Page (Some p)))) (no_page p);
   accepted = is_shown_accepted p (view u H);
-  conflicted = is_hers_or_in_conflict u p (view u H);
+  conflicted = is_own_or_in_conflict u p (view u H);
   reviews = unwrap_or (reviews_answered (answer u (view u H) (queries.Reviews (Some p)))) [];
   comments = unwrap_or (comments_answered (answer u (view u H) (queries.Comments (Some p)))) [];
   responded = is_some (response_answered (answer u (view u H) (queries.Response (Some p))));

@@ -38,8 +38,8 @@
 //!
 //! Exits:
 //!
-//! - With 0 and 5 each door gave its share and said `Done` last; with 7 each said `Done` or failed. With 0, 5 and 7
-//!   no connection ended for lack of memory (`all`, `told`, `none_lacked`).
+//! - With 0 and 5 each door gave its share and said `Done` last; with 7, if the gates opened, each said `Done` or
+//!   failed. With 0, 5 and 7 no connection ended for lack of memory (`all`, `told`, `none_lacked`).
 //! - 4, 5, 6, 7 and 10 mean that the counter of input, output, shelf, gates or clock rose; each exit has its number:
 //!   `top` (`counted`, `IsCounted`), `Exit::code`.
 //!

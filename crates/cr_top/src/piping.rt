@@ -21,7 +21,7 @@ use std::sync::Wait;
 /// `ReadFault` comes only where the count of `input` has risen, or stands at its last value, `WriteFault` so for
 /// `out` and `ClockFault` so for `clock`. With every other ending these counts stay, but where memory ran out: the
 /// clock's may rise as it fails to give the moment of the note, and that of `out` as the note's write breaks off.
-/// `OutOfMemory` comes for lack of memory alone, and behind a wish that was read only where it wanted some: see
+/// `OutOfMemory` stands for a lack of memory; behind a wish that was read it comes only where the wish wanted some: see
 /// `serve_connection`.
 pub fn pipe<R: Wait, K: Keeper, I: Source, O: Sink, C: Clock>(
     rt: &R,

@@ -164,16 +164,16 @@ fn run_words<R: Threads + Wait + Sync, I: Source, O: Sink, S: Shelf, G: Gates, C
 ///   exactly where the ending is `Cut`.
 /// - `Usage` comes exactly where `clap` refuses the words, a call for help included, unless memory is
 ///   wanting or the usage line can't be written. Then nothing is read.
-/// - `BadStore` comes exactly where the store's rows don't open as a legal history, and `KeeperFault` only
-///   where the count of `shelf` rose in this call, or stands at its last value. Then nothing is read and
-///   nothing written, and no gate asked.
+/// - `BadStore` comes exactly where the store's rows don't open as a legal history. Then nothing is read and nothing
+///   written, and no gate asked. `KeeperFault` comes only where the count of `shelf` rose in this call, or stands at
+///   its last value.
 /// - `ListenFault` comes only where the count of `gates` rose in this call, or stands at its last value. Where they
 ///   weren't opened, nothing is written.
 /// - `NoUser` comes exactly where `view` opened its store and nobody there has registered the name.
 /// - `ReadFault`, `WriteFault` and `ClockFault` come only where the count of `input`, of `out`, of `clock` rose in this
 ///   call, or stands at its last value. `ClockFault` comes exactly where the ending of `pipe`'s connection is that;
 ///   where the clock of one of `serve`'s connections fails, that connection alone ends by it.
-/// - `OutOfMemory` comes for lack of memory alone.
+/// - `OutOfMemory` stands for a lack of memory; no clause says when memory lacks.
 pub fn top<R: Threads + Wait + Sync, I: Source, O: Sink, S: Shelf, G: Gates, C: Clock>(
     rt: &R,
     alloc: Global,

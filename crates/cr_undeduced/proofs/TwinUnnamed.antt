@@ -17,7 +17,7 @@ use Rattle.cr_base.proofs.Small.{eqb-self}
 use Rattle.cr_bounds.specs.ShownTo.{is_told, maker_for, user_for, where_known, oversees, administers, discusses}
 use Rattle.cr_bounds.specs.ShownTo.{is_answered, is_party, knows_writers, hides_reviewers, names_reviewers}
 use Rattle.cr_bounds.specs.ShownTo.{chairs_committee, serves, is_past_reviewing, is_past_discussion}
-use Rattle.cr_undeduced.specs.Twins.{Twins, placed, twin_maker, renames, AreUntold, NoneIsHers}
+use Rattle.cr_undeduced.specs.Twins.{Twins, placed, twin_maker, renames, AreUntold, MadeNone}
 use Rattle.cr_undeduced.specs.Twins.{IsShownNoNames, TwinsUnnamed}
 use Rattle.cr_undeduced.proofs.TwinViews.{outside-moved, twins_unseen}
 
@@ -173,7 +173,7 @@ module _ (t : Twins) (u : Option ℕ) (T : History) (shown : IsShownNoNames t u 
 
   -- ---- all of them
 
-  are-untold : (before H : History) → NoneIsHers t u T H → AreUntold t u T before H
+  are-untold : (before H : History) → MadeNone t u T H → AreUntold t u T before H
   are-untold before [] none = tt
   are-untold before (e ∷ H) none = (
     maker-untold before H e.stamp e.entry,

@@ -136,22 +136,22 @@ is_blind_to u paper H =
 
 -- the user made none of the entries that name one of the two, as a chair who was dismissed has; and if the user is an
 -- author of the paper, none of them is a declaration by another of its authors
-abbrev pub NoneIsHers : Twins → Option ℕ → History → History → Type 0
-NoneIsHers t u H [] = Unit {0}
-NoneIsHers t u H (e ∷ later) =
+abbrev pub MadeNone : Twins → Option ℕ → History → History → Type 0
+MadeNone t u H [] = Unit {0}
+MadeNone t u H (e ∷ later) =
     (IsTrue (renames t e.entry) → IsFalse (is_number u e.stamp.maker)
     × IsFalse (is_author u t.paper H && is_author (Some e.stamp.maker) t.paper H))
-    × NoneIsHers t u H later
+    × MadeNone t u H later
 
 -- the user is neither of the two, neither of them is an author of the paper, the user is shown no names at it
--- (`is_blind_to`), and no entry tells them by its actor (`NoneIsHers`)
+-- (`is_blind_to`), and no entry tells them by its actor (`MadeNone`)
 pub record IsShownNoNames (t : Twins) (u : Option ℕ) (H : History) : Type 0 where
   pub one : IsFalse (is_number u t.one)
   pub other : IsFalse (is_number u t.other)
   pub one_wrote : IsFalse (is_author (Some t.one) t.paper H)
   pub other_wrote : IsFalse (is_author (Some t.other) t.paper H)
   pub blind : IsTrue (is_blind_to u t.paper H)
-  pub none : NoneIsHers t u H H
+  pub none : MadeNone t u H H
 
 -- ---- the clauses
 

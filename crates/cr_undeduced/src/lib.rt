@@ -99,8 +99,8 @@ pub fn law_how_one_came()
 ///   its writer, though they may be shown no other comment.
 /// - `labels`: a label tells that so many were given. A letter that is missing among an author's reviews was given
 ///   too.
-/// - `one_chair`: if only one user was ever appointed chair, which everyone is shown, that user made each entry that
-///   only chairs make.
+/// - `one_chair`: if only one user was ever appointed chair, which everyone is shown, that user made each entry of nine
+///   kinds that only chairs make (`IsOfChairs`).
 ///
 /// *Scope:* legal histories.
 pub fn law_deducible()
