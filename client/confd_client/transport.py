@@ -205,6 +205,8 @@ class Transport:
                 request.method, self.url + request.path, params=dict(request.query), data=body,
                 headers=headers, timeout=(CONNECTED_WITHIN, ANSWERED_WITHIN), allow_redirects=False)
         except requests.exceptions.SSLError as cause:
+            if is_cut(cause):
+                raise Lost("the secure connection was cut") from cause
             raise Unanswered(str(request), f"no secure connection: {why_insecure(cause)}") from cause
         except (requests.ConnectionError, requests.Timeout, requests.exceptions.ChunkedEncodingError) as cause:
             raise Lost(_why(cause)) from cause
@@ -235,6 +237,11 @@ def _why(cause: requests.RequestException) -> str:
         if known in text:
             return known[0].lower() + known[1:]
     return type(cause).__name__
+
+
+def is_cut(cause: requests.exceptions.SSLError) -> bool:
+    """Whether a secure connection only ended too early, in its handshake or later: that may pass."""
+    return "EOF" in str(cause)
 
 
 def why_insecure(cause: requests.exceptions.SSLError) -> str:

@@ -3,6 +3,8 @@
 
 from __future__ import annotations
 
+import contextlib
+import socket
 import threading
 import time
 from pathlib import Path
@@ -129,6 +131,30 @@ def test_a_certificate_that_nobody_vouches_for() -> None:
     assert transport.why_insecure(requests.exceptions.SSLError(told)) == (
         "certificate verify failed: self-signed certificate")
     assert transport.why_insecure(requests.exceptions.SSLError("wrong version")) == "wrong version"
+
+
+def test_a_secure_connection_that_is_cut() -> None:
+    """In its handshake: what was asked is sent again, as after any other lost connection."""
+    reasons = list[str]()
+
+    def cut(listener: socket.socket) -> None:
+        with contextlib.suppress(OSError):
+            while True:
+                with listener.accept()[0] as near:
+                    near.recv(65536)
+
+    def wait(reason: str, _: float) -> None:
+        reasons.append(reason)
+        if len(reasons) == 3:
+            raise InterruptedError
+
+    with socket.create_server(("127.0.0.1", 0)) as listener:
+        threading.Thread(target=cut, args=(listener,), daemon=True).start()
+        with Client(f"https://127.0.0.1:{listener.getsockname()[1]}", patience=20, on_wait=wait) as client:
+            with pytest.raises(InterruptedError):
+                client.phase()
+        listener.shutdown(socket.SHUT_RDWR)
+    assert reasons == ["the secure connection was cut"] * 3
 
 
 def test_what_the_environment_says_of_others(server: Server, monkeypatch: pytest.MonkeyPatch, tmp_path: Path) -> None:
