@@ -15,82 +15,27 @@ import json
 import os
 import socket
 import ssl
-import subprocess
 import sys
 import threading
 import time
 
 from lib.checking import expect, run_all
+from lib.nginx import nginx_before
 from lib.own_systemd import has_come
-from lib.places import TOP
 from lib.program import chosen
-from lib.server import free_port, serving
+from lib.server import serving
 from lib.wire import secret_of
 
 
 SECRET = secret_of("alice")
 
-# What a server's configuration needs around it, in a folder of its own.
-AROUND = """
-user root;
-worker_processes 4;
-daemon off;
-pid {folder}/nginx.pid;
-error_log {folder}/error.log;
-events {{ worker_connections 512; }}
-http {{
-    access_log off;
-    # Clients of this check say which address is theirs.
-    set_real_ip_from 127.0.0.1;
-    real_ip_header X-Real-IP;
-    client_body_temp_path {folder}/body;
-    proxy_temp_path {folder}/proxy;
-    include {folder}/server.conf;
-}}
-"""
-
-
-def configuration(folder, upstream, port, is_closed):
-    """deploy/nginx.conf with the addresses, the certificate and its key of this run, and if registration is closed
-    with the lines that close it."""
-    with open(TOP / "deploy/nginx.conf", encoding="utf-8") as file:
-        text = file.read()
-    for old, new in (
-        ("server 127.0.0.1:8080;", f"server 127.0.0.1:{upstream};"),
-        ("listen 443 ssl;", f"listen 127.0.0.1:{port} ssl;"),
-        ("listen [::]:443 ssl;", f"listen [::1]:{port} ssl;"),
-        ("/etc/ssl/certs/review.example.org.pem", f"{folder}/cert.pem"),
-        ("/etc/ssl/private/review.example.org.key", f"{folder}/key.pem"),
-    ):
-        expect(text.count(old) == 1, f"deploy/nginx.conf has no {old}")
-        text = text.replace(old, new)
-    expect(text.count("#- ") == 5, "deploy/nginx.conf has no lines that close registration")
-    return text.replace("#- ", "") if is_closed else text
-
 
 @contextlib.contextmanager
 def behind_nginx(program, folder, is_closed=False):
     """The port at which nginx answers for a server of 64 workers."""
-    subprocess.run(
-        ["openssl", "req", "-x509", "-newkey", "rsa:2048", "-nodes", "-days", "1", "-subj", "/CN=review.example.org",
-         "-keyout", f"{folder}/key.pem", "-out", f"{folder}/cert.pem"], check=True, capture_output=True)
-    port = free_port()
     with serving(program, os.path.join(folder, "store"), workers=64) as server:
-        with open(f"{folder}/server.conf", "w", encoding="utf-8") as file:
-            file.write(configuration(folder, server.port, port, is_closed))
-        with open(f"{folder}/nginx.conf", "w", encoding="utf-8") as file:
-            file.write(AROUND.format(folder=folder))
-        nginx = subprocess.Popen(["nginx", "-c", f"{folder}/nginx.conf", "-p", folder], stderr=subprocess.DEVNULL)
-        try:
-            for _ in range(100):
-                with contextlib.suppress(OSError):
-                    socket.create_connection(("127.0.0.1", port)).close()
-                    break
-                time.sleep(0.1)
-            yield port
-        finally:
-            nginx.terminate()
-            nginx.wait()
+        with nginx_before(server.port, folder, is_closed) as nginx:
+            yield nginx.port
 
 
 def unverified():

@@ -22,20 +22,20 @@ Prints a line a check, and last `N passed, M failed`; ends with status 0 where n
 import argparse
 import collections
 import concurrent.futures
-import contextlib
 import json
 import os
 import random
 import socket
-import struct
 import threading
 import time
 
 from lib.checking import expect, run_all
 from lib.database import opened
 from lib.drill import KINDS
-from lib.model import Conference, mark_of, secret_of
+from lib.model import mark_of, secret_of
+from lib.model_by_kind import ByKind
 from lib.program import LONG, program_named
+from lib.relay import Relay
 from lib.server import SOON, Server
 from lib.wire import answers, asked
 
@@ -58,61 +58,6 @@ PAPERS, COMMENTS, LABELS = 12, 900, 9
 OLD, OTHER = 0.05, 0.02
 UNTIL = [None, "9999-12-30T22:00:00Z", "9000-01-01T00:00:00+01:00"]
 options = None
-
-
-class Relay:
-    """Hands bytes on between clients and the server, and cuts each connection behind a random number of them."""
-
-    def __init__(self, seed):
-        self.random, self.target, self.carried = random.Random(seed), None, 0
-        self.listener = socket.create_server(("127.0.0.1", 0), backlog=64)
-        self.port = self.listener.getsockname()[1]
-        threading.Thread(target=self.listen, daemon=True).start()
-
-    def listen(self):
-        with contextlib.suppress(OSError):
-            while True:
-                near = self.listener.accept()[0]
-                self.carried += 1
-                room = self.random.randrange(self.random.choice([300, 1000, 5000]))
-                there = self.random.random() < 0.5
-                threading.Thread(target=self.carry, args=(near, room, there, self.random.random() < 0.5),
-                                 daemon=True).start()
-
-    def carry(self, near, room, there, is_reset):
-        """One connection, until so many bytes went the one way, or an end ends it; both ends are cut then."""
-        try:
-            far = socket.create_connection(("127.0.0.1", self.target), timeout=SOON)
-        except OSError:
-            # The server is down; whoever asks again will not ask in vain all the time.
-            time.sleep(0.02)
-            near.close()
-            return
-        ways = ((near, far, room if there else None), (far, near, None if there else room))
-        pumps = [threading.Thread(target=pump, args=way, daemon=True) for way in ways]
-        for thread in pumps:
-            thread.start()
-        for thread in pumps:
-            thread.join()
-        for end in (near, far):
-            if is_reset:
-                with contextlib.suppress(OSError):
-                    end.setsockopt(socket.SOL_SOCKET, socket.SO_LINGER, struct.pack("ii", 1, 0))
-            end.close()
-
-
-def pump(source, sink, room):
-    """Hands bytes on, so many where that is told; then neither end is read any more."""
-    with contextlib.suppress(OSError):
-        while room != 0:
-            piece = source.recv(65536)[:room]
-            if not piece:
-                break
-            sink.sendall(piece)
-            room = None if room is None else room - len(piece)
-    for end in (source, sink):
-        with contextlib.suppress(OSError):
-            end.shutdown(socket.SHUT_RD)
 
 
 class Sender:
@@ -370,21 +315,6 @@ def once_each(groups, clients):
            f"{len(came)} of {len(due)} commands stand there, {len(twice)} twice: {twice[:3]}")
 
 
-class ByKind(Conference):
-    """The model, with the entries of each kind together, so that ten thousand commands are asked in time. No bulk is
-    refused here."""
-
-    def __init__(self):
-        super().__init__()
-        self.found, self.looked_at = collections.defaultdict(list), 0
-
-    def entries_of(self, kind):
-        for maker, of, fields in self.history[self.looked_at :]:
-            self.found[of].append((maker, fields))
-        self.looked_at = len(self.history)
-        return self.found[kind]
-
-
 def replayed(groups, clients):
     """The model behind the same commands in the rows' order, each asked once; its answers have to be those that
     came."""
@@ -440,7 +370,7 @@ def act_once(program, folder):
         told = as_told(servers[-1], model, sorted(papers))
         print(f"    {len(model.history):,} rows, {told} questions answered as the model does", flush=True)
     finally:
-        relay.listener.close()
+        relay.close()
         for server in servers:
             server.stop()
 
