@@ -10,7 +10,7 @@
 #     gate      what checks of the gate leave out, each with a line, where it isn't there
 #     client    the client and its tests: client/tests, mypy, flake8; the overview in a browser; deploy/package_client.sh
 #     package   what makes and reads a package: deploy/package.sh, checks/package.py
-#     peers     clients and servers that confd is tried with: checks/clients.py, checks/behind_nginx.py, bench/
+#     peers     clients and servers that confd is tried with: checks/clients.py, behind_nginx.py and soak.py, bench/
 #     unit      what runs the service file: checks/unit.py
 #     pictures  what lays out the graph of the crates: checks/pictures.py --write
 #     disks     file systems, and what lends one a disk that refuses a write: checks/real_disks.py

@@ -11,12 +11,13 @@ from .places import TOP
 
 sys.path.append(str(TOP / "deploy"))
 from store_formats import (  # noqa: E402
-    EMPTY, NUMBERS, OPEN, TEXTS, NoJournal, Row, field, frame, groups_of, rows_in, rows_of, spelled,
+    EMPTY, NUMBERS, OPEN, TEXTS, NoJournal, Row, connected, field, frame, groups_by_more, groups_of, rows_by_place,
+    rows_in, rows_of, spelled,
 )  # fmt: skip
 
 __all__ = [
-    "EMPTY", "LAST_MOMENT", "NUMBERS", "OPEN", "TEXTS", "Bad", "Judged", "NoJournal", "Row", "field", "frame",
-    "groups_of", "rows_in", "rows_of", "spelled",
+    "EMPTY", "LAST_MOMENT", "NUMBERS", "OPEN", "TEXTS", "Bad", "Judged", "NoJournal", "Row", "connected", "field",
+    "frame", "groups_by_more", "groups_of", "rows_by_place", "rows_in", "rows_of", "spelled",
 ]  # fmt: skip
 
 # 9999-12-31T23:59:59Z, behind which no row has a moment; the last number of a command, and the last of users and
