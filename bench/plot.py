@@ -15,6 +15,7 @@ What was measured anew is written into bench/data by hand, from what a script of
     stores.csv     a journal beside a database
     gate.csv       processor minutes of the gate, by crate
     openings.csv, retries.csv, plans.csv, assignments.csv    what else the scripts printed
+    looks.csv      what plans look at, as valgrind counted it on an unoptimised build of cr_match
 
 Needs only Python 3. Ends with status 0 if all are up to date.
 """
